@@ -1,0 +1,5 @@
+pub mod Members
+pub mod Gathering
+pub mod Staying
+pub mod Leading
+pub mod Favouring

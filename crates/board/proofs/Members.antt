@@ -1,0 +1,111 @@
+-- The members of a set of bits.
+use mathlib.Core.Bool.{Bool, true, false, _&&_, _||_}
+use mathlib.Core.Path.{_≡_, refl, sym, ap, _∙_}
+use mathlib.Core.Logic.{_⊎_, inl, inr, ⊎-elim}
+use Prim.Native.Nat.{ℕ, zero, suc, _+_, _*_, _-_, _/_, _%_, _^_, _<_, _≤_}
+use native.Mathlib.Nat.{mod-one, div-eq-of-lt, pow-le-pow-right, mod-eq-of-lt}
+use native.Mathlib.Numerals.{one-add}
+use native.Mathlib.Omega.{arith}
+use lib.Dec.{eqb, ltb}
+use lib.Bits.{bitAnd, bitOr}
+use lib.Pow.{pow-pos}
+use Rattle.std.proofs.shelf.Bits.{mod-pow-add, and-shr, and-mod, or-shr, or-mod, shl-shr, pow-add}
+use Rattle.std.proofs.shelf.Tests.{eqb-true, eqb-false, eq-eqb, le-ltb, cases-lt, cases-bool, true≢false}
+use Rattle.board.specs.Sets.{has}
+
+-- a set below 2 ^ n has no member from n on
+pub none-from : (s n i : ℕ) → s < 2 ^ n → n ≤ i → has s i ≡ false
+unfolding has
+none-from s n i small l =
+    let two : 0 < 2 = omega arith in
+    let big : 2 ^ n ≤ 2 ^ i = pow-le-pow-right two l in
+    let lt : s < 2 ^ i = omega arith in
+    ap (λ m. eqb (m % 2) 1) (div-eq-of-lt lt)
+
+pub member-small : (s n i : ℕ) → s < 2 ^ n → has s i ≡ true → i < n
+member-small s n i small h =
+    ⊎-elim (λ l. l)
+    (λ (le : n ≤ i). let z : true ≡ false = sym h ∙ none-from s n i small le in absurd (true≢false z))
+    (cases-lt i n)
+
+pub none-in-empty : (i : ℕ) → has 0 i ≡ false
+none-in-empty i = none-from 0 0 i (omega arith) (omega arith)
+
+-- no member below k: nothing in the low k bits
+low-none : (s k : ℕ) → ((i : ℕ) → i < k → has s i ≡ false) → s % 2 ^ k ≡ 0
+unfolding has
+low-none s zero h = mod-one s
+low-none s (suc k) h =
+    let before : s % 2 ^ k ≡ 0 = low-none s k (λ i l. h i (omega arith)) in
+    let here : s / 2 ^ k % 2 ≡ 0 = omega (arith, eqb-false (s / 2 ^ k % 2) 1 (h k (omega arith))) in
+    let parts : s % 2 ^ (1 + k) ≡ (s / 2 ^ k % 2) * 2 ^ k + s % 2 ^ k = mod-pow-add s 1 k in
+    let zero-high : (s / 2 ^ k % 2) * 2 ^ k ≡ 0 = rw here (omega arith) in
+    ap (λ n. s % 2 ^ n) (sym (one-add k)) ∙ parts ∙ omega arith
+
+pub no-member-empty : (s n : ℕ) → s < 2 ^ n → ((i : ℕ) → i < n → has s i ≡ false) → s ≡ 0
+no-member-empty s n small h = sym (mod-eq-of-lt small) ∙ low-none s n h
+
+-- a member below n, or none
+pub member-or-none : (s n : ℕ) → ((i : ℕ) → i < n → has s i ≡ false) ⊎ ((i : ℕ) × (has s i ≡ true))
+member-or-none s zero = inl (λ i l. absurd (omega arith))
+member-or-none s (suc n) =
+    ⊎-elim
+    (λ (h : has s n ≡ true). inr (n, h))
+    (λ (h : has s n ≡ false).
+    ⊎-elim
+    (λ none. inl (λ i l.
+    ⊎-elim
+    (λ (below : i < n). none i below)
+    (λ (le : n ≤ i). let e : i ≡ n = omega arith in ap (has s) e ∙ h)
+    (cases-lt i n)))
+    (λ found. inr found)
+    (member-or-none s n))
+    (cases-bool (has s n))
+
+-- bits below 2, one by one
+and-bit : (x y : ℕ) → x < 2 → y < 2 → eqb (bitAnd x y) 1 ≡ (eqb x 1 && eqb y 1)
+and-bit zero zero l m = refl
+and-bit zero (suc zero) l m = refl
+and-bit (suc zero) zero l m = refl
+and-bit (suc zero) (suc zero) l m = refl
+and-bit zero (suc (suc y)) l m = absurd (omega arith)
+and-bit (suc (suc x)) y l m = absurd (omega arith)
+and-bit (suc zero) (suc (suc y)) l m = absurd (omega arith)
+
+or-bit : (x y : ℕ) → x < 2 → y < 2 → eqb (bitOr x y) 1 ≡ (eqb x 1 || eqb y 1)
+or-bit zero zero l m = refl
+or-bit zero (suc zero) l m = refl
+or-bit (suc zero) zero l m = refl
+or-bit (suc zero) (suc zero) l m = refl
+or-bit zero (suc (suc y)) l m = absurd (omega arith)
+or-bit (suc (suc x)) y l m = absurd (omega arith)
+or-bit (suc zero) (suc (suc y)) l m = absurd (omega arith)
+
+pub has-both : (a b i : ℕ) → has (bitAnd a b) i ≡ (has a i && has b i)
+unfolding has
+has-both a b i =
+    let parts : bitAnd a b / 2 ^ i % 2 ≡ bitAnd (a / 2 ^ i % 2) (b / 2 ^ i % 2) =
+        ap (λ n. n % 2) (and-shr a b i) ∙ and-mod (a / 2 ^ i) (b / 2 ^ i) 1 in
+    ap (λ n. eqb n 1) parts ∙ and-bit (a / 2 ^ i % 2) (b / 2 ^ i % 2) (omega arith) (omega arith)
+
+pub has-either : (a b i : ℕ) → has (bitOr a b) i ≡ (has a i || has b i)
+unfolding has
+has-either a b i =
+    let parts : bitOr a b / 2 ^ i % 2 ≡ bitOr (a / 2 ^ i % 2) (b / 2 ^ i % 2) =
+        ap (λ n. n % 2) (or-shr a b i) ∙ or-mod (a / 2 ^ i) (b / 2 ^ i) 1 in
+    ap (λ n. eqb n 1) parts ∙ or-bit (a / 2 ^ i % 2) (b / 2 ^ i % 2) (omega arith) (omega arith)
+
+pub has-single : (n : ℕ) → has (2 ^ n) n ≡ true
+unfolding has
+has-single n = let same : 2 ^ n / 2 ^ n ≡ 1 = ap (λ m. m / 2 ^ n) (omega arith) ∙ shl-shr 1 n in rw same refl
+
+pub has-single-below : (n i : ℕ) → i < n → has (2 ^ n) i ≡ false
+unfolding has
+has-single-below n i l =
+    let k : ℕ = n - i - 1 in
+    let sum : n ≡ (k + 1) + i = omega arith in
+    let split : 2 ^ n ≡ 2 ^ (k + 1) * 2 ^ i = ap (λ m. 2 ^ m) sum ∙ pow-add 2 (k + 1) i in
+    let quotient : 2 ^ n / 2 ^ i ≡ 2 ^ (k + 1) = ap (λ m. m / 2 ^ i) split ∙ shl-shr (2 ^ (k + 1)) i in
+    let even : 2 ^ (k + 1) ≡ 2 ^ k * 2 = pow-add 2 k 1 in
+    let none : 2 ^ n / 2 ^ i % 2 ≡ 0 = omega arith in
+    rw none refl

@@ -1,0 +1,71 @@
+// A set of tasks, of lines or of events: a number of two bytes, with bit n for number n.
+ghost use mathlib.Core.Path.{_≡_};
+ghost use Prim.Native.Nat.{ℕ, _<_, _^_};
+ghost use lib.Dec.{eqb, ltb};
+ghost use Rattle.board.specs.Sets.{has, both, with-member};
+use crate::numbers::Numbered;
+use std::marker::PhantomData;
+
+#[derive_where(Clone, Copy)]
+pub struct Set<N> {
+    bits: u16,
+    kind: PhantomData<N>,
+}
+
+impl<N> Set<N> {
+    pub fn from_bits(bits: u16) -> Set<N>
+        ensures { λ r. ⌜ r .bits ≡ bits ⌝ }
+    {
+        Set {
+            bits,
+            kind: PhantomData,
+        }
+    }
+
+    pub fn bits(self) -> u16
+        ensures { λ r. ⌜ r ≡ self .bits ⌝ }
+    {
+        self.bits
+    }
+
+    pub fn is_empty(self) -> bool
+        ensures { λ r. ⌜ r ≡ eqb (self .bits) 0 ⌝ }
+    {
+        self.bits == 0
+    }
+
+    // The members that both sets have.
+    pub fn intersection(self, other: Set<N>) -> Set<N>
+        ensures { λ r. ⌜ r .bits ≡ both (self .bits) (other .bits) ⌝ }
+    {
+        Set::from_bits(self.bits & other.bits)
+    }
+
+    // Whether each member is below `count`.
+    pub fn within(self, count: u8) -> bool
+        ensures { λ r. ⌜ r ≡ ltb (self .bits) (2 ^ count) ⌝ }
+    {
+        count >= 16 || (self.bits as u32) < 1u32 << count
+    }
+}
+
+impl<N: Numbered> Set<N> {
+    pub fn contains(self, member: N) -> bool
+        ensures { λ r. ⌜ r ≡ has (self .bits) (N·Numbered .number member) ⌝ }
+    {
+        let n = member.number();
+        n < 16 && self.bits >> n & 1 == 1
+    }
+
+    // The set with one more member. A number above 15 adds none.
+    pub fn with(self, member: N) -> Set<N>
+        ensures { λ r. ⌜ r .bits ≡ with-member (self .bits) (N·Numbered .number member) ⌝ }
+    {
+        let n = member.number();
+        if n < 16 {
+            Set::from_bits(self.bits | 1 << n)
+        } else {
+            self
+        }
+    }
+}
