@@ -3,3 +3,6 @@ pub mod Gathering
 pub mod Staying
 pub mod Leading
 pub mod Favouring
+pub mod Refusing
+pub mod Padding
+pub mod Planning

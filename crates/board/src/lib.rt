@@ -1,5 +1,9 @@
 // The lowest layer: numbers and sets, policies, nesting rules, plans and the memory figure.
+pub mod kinds;
+pub mod making;
 pub mod numbers;
+pub mod plan;
 pub mod policy;
 pub mod priorities;
+pub mod refusal;
 pub mod sets;
