@@ -56,8 +56,8 @@ module _ (below : ℕ → TaskNo → Option TaskNo) (f s : ℕ) (small : s < 2 ^
   favour-empty law c =
       by-ways c (None-exactly-when-empty s) (λ _. law s c small)
       (λ some.
-       let part = law (both s f) c both-small in
-       (λ e. absurd (some (part .0 e)), λ e. absurd (some (omega (arith, and-le-l s f)))))
+      let part = law (both s f) c both-small in
+      (λ e. absurd (some (part .0 e)), λ e. absurd (some (omega (arith, and-le-l s f)))))
 
   pub favour-member :
       ((u : ℕ) (c : TaskNo) → u < 2 ^ 16 → Only-from u (below u c)) → (c : TaskNo) → Only-from s (favour below f s c)
@@ -82,12 +82,13 @@ module _ (below : ℕ → TaskNo → Option TaskNo) (f s : ℕ) (small : s < 2 ^
       }
 
   pub favour-exactly : (c : TaskNo) → Exactly (Favours below f s c) (favour below f s c)
-  favour-exactly c =
-      (favours c,
-       λ other g.
-       by-ways c (λ o. other ≡ o) (λ e. g .none-favoured (λ t h k. both-nonempty t h k e))
-       (λ some.
+  favour-exactly c = (
+    favours c,
+    λ other g.
+        by-ways c (λ o. other ≡ o) (λ e. g .none-favoured (λ t h k. both-nonempty t h k e))
+        (λ some.
         ⊎-elim
         (λ none. absurd (some (no-member-empty (both s f) 16 both-small none)))
         (λ found. let parts = member-of-both (found .0) (found .1) in g .some-favoured (found .0) (parts .0) (parts .1))
-        (member-or-none (both s f) 16)))
+        (member-or-none (both s f) 16)),
+  )

@@ -102,8 +102,8 @@ module _ (ps : List ℕ) (s : ℕ) where
   from-leaders : (t : ℕ) → t < 16 → has (leaders ps s) t ≡ true → Leader t
   from-leaders t l h =
       let parts =
-          and-parts (has s t) (eqb (priority-of ps t) (highest-priority ps s))
-          (sym (has-gathered (member-of-priority ps s (highest-priority ps s)) 16 t l) ∙ h) in
+      and-parts (has s t) (eqb (priority-of ps t) (highest-priority ps s))
+      (sym (has-gathered (member-of-priority ps s (highest-priority ps s)) 16 t l) ∙ h) in
       let most = eqb-true (priority-of ps t) (highest-priority ps s) (parts .1) in
       (parts .0, λ u low member. omega (arith, highest-over 16 u low member))
 
@@ -149,7 +149,7 @@ module _ (ps : List ℕ) (s : ℕ) where
         highest = led .1;
         lowest = λ u l h same.
             let also : has (leaders ps s) u ≡ true =
-                to-leaders u l (h, λ v low member. omega (arith, led .1 v low member)) in
+            to-leaders u l (h, λ v low member. omega (arith, led .1 v low member)) in
             ⊎-elim
             (λ (less : u < t .0).
             ⊎-elim
@@ -216,10 +216,10 @@ module _ (ps : List ℕ) (s : ℕ) where
       exactly-one s (Stays-or-nearest-of-highest ps s c) (λ t. Nearest-of-highest ps s (counted c) (t .0))
       (λ e. e) (λ t f. f) (λ e. e) (λ t f. f) (λ t f. f .ready)
       (λ t u p q.
-       let lt : t .0 < 16 = member-small s 16 (t .0) small (p .ready) in
-       let lu : u .0 < 16 = member-small s 16 (u .0) small (q .ready) in
-       task-same t u
-       (nearest-same (leaders ps s) (counted c) (t .0) (u .0) from leaders-small (to-nearest (counted c) (t .0) lt p from)
-        (to-nearest (counted c) (u .0) lu q from)))
+      let lt : t .0 < 16 = member-small s 16 (t .0) small (p .ready) in
+      let lu : u .0 < 16 = member-small s 16 (u .0) small (q .ready) in
+      task-same t u
+      (nearest-same (leaders ps s) (counted c) (t .0) (u .0) from leaders-small (to-nearest (counted c) (t .0) lt p from)
+      (to-nearest (counted c) (u .0) lu q from)))
       (share ps s c) (share-answers small c)
       (λ t e. from-nearest (counted c) (t .0) (stay-nearest (leaders ps s) c t e) from)

@@ -6,3 +6,4 @@ pub mod Favouring
 pub mod Refusing
 pub mod Padding
 pub mod Planning
+pub mod Counting

@@ -85,14 +85,14 @@ pub has-both : (a b i : ℕ) → has (bitAnd a b) i ≡ (has a i && has b i)
 unfolding has
 has-both a b i =
     let parts : bitAnd a b / 2 ^ i % 2 ≡ bitAnd (a / 2 ^ i % 2) (b / 2 ^ i % 2) =
-        ap (λ n. n % 2) (and-shr a b i) ∙ and-mod (a / 2 ^ i) (b / 2 ^ i) 1 in
+    ap (λ n. n % 2) (and-shr a b i) ∙ and-mod (a / 2 ^ i) (b / 2 ^ i) 1 in
     ap (λ n. eqb n 1) parts ∙ and-bit (a / 2 ^ i % 2) (b / 2 ^ i % 2) (omega arith) (omega arith)
 
 pub has-either : (a b i : ℕ) → has (bitOr a b) i ≡ (has a i || has b i)
 unfolding has
 has-either a b i =
     let parts : bitOr a b / 2 ^ i % 2 ≡ bitOr (a / 2 ^ i % 2) (b / 2 ^ i % 2) =
-        ap (λ n. n % 2) (or-shr a b i) ∙ or-mod (a / 2 ^ i) (b / 2 ^ i) 1 in
+    ap (λ n. n % 2) (or-shr a b i) ∙ or-mod (a / 2 ^ i) (b / 2 ^ i) 1 in
     ap (λ n. eqb n 1) parts ∙ or-bit (a / 2 ^ i % 2) (b / 2 ^ i % 2) (omega arith) (omega arith)
 
 pub has-single : (n : ℕ) → has (2 ^ n) n ≡ true

@@ -1,11 +1,11 @@
 -- Tables of sixteen places.
 use mathlib.Core.List.{List, [], _∷_, _++_, map}
 use mathlib.Core.Path.{_≡_, refl, sym, ap, _∙_}
-use Prim.Native.Nat.{ℕ, zero, suc, _+_, _-_, _<_, _≤_}
+use Prim.Native.Nat.{ℕ, zero, suc, _+_, _-_, _<_, _≤_, min}
 use native.Mathlib.Numerals.{add-one}
 use native.Mathlib.Omega.{arith}
 use lib.ListN.{length, take, drop, set, getD, replicate}
-use Rattle.std.proofs.shelf.Lists.{append-assoc, map-append, length-map, length-append, length-replicate, length-take-le, set-at, take-all, take-at, take-more, take-map, drop-more, drop-replicate}
+use Rattle.std.proofs.shelf.Lists.{append-assoc, map-append, length-map, length-append, length-replicate, length-take, length-take-le, set-at, take-all, take-at, take-more, take-map, drop-more, drop-replicate}
 use Rattle.board.specs.declared.numbers.TaskNo.{TaskNo}
 use Rattle.board.specs.declared.sets.Set.{Set}
 use Rattle.board.specs.Plans.{bits-of, padded}
@@ -20,12 +20,12 @@ fill-more {A} entries before all i x low room so-far is =
     let b : drop i before ≡ getD before i x ∷ drop (i + 1) before = drop-more before i x (omega arith) in
     let more : take (i + 1) entries ≡ take i entries ++ getD entries i x ∷ [] = take-more entries i x low in
     let s :
-        set (take i entries ++ getD before i x ∷ drop (i + 1) before) i x ≡ take i entries ++ x ∷ drop (i + 1) before =
-        set-at (take i entries) (getD before i x) (drop (i + 1) before) x i a in
+    set (take i entries ++ getD before i x ∷ drop (i + 1) before) i x ≡ take i entries ++ x ∷ drop (i + 1) before =
+    set-at (take i entries) (getD before i x) (drop (i + 1) before) x i a in
     let q :
-        (take i entries ++ getD entries i x ∷ []) ++ drop (i + 1) before
-        ≡ take i entries ++ getD entries i x ∷ drop (i + 1) before =
-        append-assoc (take i entries) (getD entries i x ∷ []) (drop (i + 1) before) in
+    (take i entries ++ getD entries i x ∷ []) ++ drop (i + 1) before
+    ≡ take i entries ++ getD entries i x ∷ drop (i + 1) before =
+    append-assoc (take i entries) (getD entries i x ∷ []) (drop (i + 1) before) in
     ap (λ v. set v i x) (so-far ∙ ap (λ v. take i entries ++ v) b)
     ∙ (s
     ∙ (ap (λ v. take i entries ++ v ∷ drop (i + 1) before) is ∙ (sym q ∙ ap (λ v. v ++ drop (i + 1) before) (sym more))))
@@ -73,3 +73,20 @@ module _ (ws all : List (Set TaskNo)) (z : Set TaskNo) (empty : z .bits ≡ 0) (
 
   pub bits-again : padded 0 (map bits-of (take (length ws) all)) ≡ map bits-of all
   bits-again = ap (λ v. padded 0 (map bits-of v)) (take-padded z ws all e) ∙ sym bits-padded
+
+length-padded : {A : Type 0} (z : A) (xs : List A) → length xs ≤ 16 → length (padded z xs) ≡ 16
+length-padded z xs few =
+    length-append xs (replicate (16 - length xs) z)
+    ∙ (ap (λ n. length xs + n) (length-replicate (16 - length xs) z) ∙ omega arith)
+
+-- a table of sets whose places after the first n are empty has sixteen places
+pub length-wakes :
+    (n : ℕ) (all : List (Set TaskNo)) → n ≤ 16 → padded 0 (map bits-of (take n all)) ≡ map bits-of all →
+    length (map bits-of (take n all)) ≡ n
+length-wakes n all few e =
+    let m = length-map (take n all) bits-of in
+    let t = length-take n all in
+    let p = length-padded 0 (map bits-of (take n all)) (omega arith) in
+    let l : length (map bits-of all) ≡ length all = length-map all bits-of in
+    let whole : length all ≡ 16 = sym l ∙ (ap length (sym e) ∙ p) in
+    omega arith

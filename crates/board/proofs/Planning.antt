@@ -98,13 +98,13 @@ module _ (p : Parts) where
         refused-by-sets h =
             sym
             (by-stages (all-passed counts counted) (policy-known (p .policy) k policy) (rule-known (p .rule) r rule)
-             (first-failed (set-tests p) h))
+            (first-failed (set-tests p) h))
 
         pub accepted : {v : Unit {0}} → Ok v ≡ checked (set-tests p) → Ok p ≡ planned p
         accepted h =
             sym
             (by-stages (all-passed counts counted) (policy-known (p .policy) k policy) (rule-known (p .rule) r rule)
-             (all-passed (set-tests p) h))
+            (all-passed (set-tests p) h))
 
 -- what passed tests say
 or-else-none : {E : Type 0} (a b : Option E) → or-else a b ≡ None → (a ≡ None) × (b ≡ None)
@@ -116,9 +116,12 @@ counts-in-range t l n h =
     let a = or-else-none (needs (leb 1 t && leb t 16) TaskCount) _ h in
     let b = or-else-none (needs (leb l 16) LineCount) _ (a .1) in
     let c = or-else-none (needs (leb n 16) EventCount) _ (b .1) in
-    let tasks = and-parts (leb 1 t) (leb t 16) (needs-met TaskCount _ (a .0)) in
-    (leb-true 1 t (tasks .0), leb-true t 16 (tasks .1), leb-true l 16 (needs-met LineCount _ (b .0)),
-     leb-true n 16 (needs-met EventCount _ (c .0)))
+    let tasks = and-parts (leb 1 t) (leb t 16) (needs-met TaskCount _ (a .0)) in (
+      leb-true 1 t (tasks .0),
+      leb-true t 16 (tasks .1),
+      leb-true l 16 (needs-met LineCount _ (b .0)),
+      leb-true n 16 (needs-met EventCount _ (c .0)),
+    )
 
 wakes-known : (t l e : ℕ) (ws : List ℕ) → first (wake-tests t l e ws) ≡ None → (k : ℕ) → getD ws k 0 < 2 ^ t
 wakes-known t l e [] h k = pow-pos t
@@ -136,9 +139,11 @@ pub sets-known :
 sets-known p h =
     let t = length (p .priorities) in
     let a = or-else-none (needs (within (p .start) t) StartSet) _ h in
-    let b = or-else-none (needs (within (p .favoured) t) FavouredSet) _ (a .1) in
-    (ltb-true (p .start) (2 ^ t) (needs-met StartSet _ (a .0)), ltb-true (p .favoured) (2 ^ t) (needs-met FavouredSet _ (b .0)),
-     wakes-known t (length (p .levels)) 0 (p .wakes) (b .1))
+    let b = or-else-none (needs (within (p .favoured) t) FavouredSet) _ (a .1) in (
+      ltb-true (p .start) (2 ^ t) (needs-met StartSet _ (a .0)),
+      ltb-true (p .favoured) (2 ^ t) (needs-met FavouredSet _ (b .0)),
+      wakes-known t (length (p .levels)) 0 (p .wakes) (b .1),
+    )
 
 -- a loop over the wake sets
 module _ (t l : ℕ) (ws : List (Set TaskNo)) (e i : ℕ) where

@@ -22,9 +22,10 @@ never s n h k = true≢false (sym h ∙ k)
 
 pub answered-empty : (s : ℕ) (o : Option TaskNo) → Answered s o → None-exactly-when-empty s o
 answered-empty s None a = (λ _. a, λ _. refl)
-answered-empty s (Some t) a =
-    (λ e. let z : _≡_ {A = ℕ} 0 1 = cc in absurd (omega arith),
-     λ e. absurd (never 0 (t .0) (subst (λ v. has v (t .0) ≡ true) e a) (none-in-empty (t .0))))
+answered-empty s (Some t) a = (
+  λ e. let z : _≡_ {A = ℕ} 0 1 = cc in absurd (omega arith),
+  λ e. absurd (never 0 (t .0) (subst (λ v. has v (t .0) ≡ true) e a) (none-in-empty (t .0))),
+)
 
 pub answered-member : (s : ℕ) (o : Option TaskNo) → Answered s o → Only-from s o
 answered-member s None a t e = let z : _≡_ {A = ℕ} 0 1 = cc in absurd (omega arith)

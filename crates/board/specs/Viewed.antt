@@ -19,7 +19,7 @@ parts p =
       favoured = p .favoured .bits;
       priorities = take (p .tasks) (p .priorities);
       levels = take (p .lines) (p .levels);
-      wakes = map bits-of (take (p .events) (p .wakes))
+      wakes = map bits-of (take (p .events) (p .wakes));
     }
 
 abbrev pub given : Tables → Parts
@@ -31,7 +31,7 @@ given t =
       favoured = t .favoured .bits;
       priorities = now (t .priorities);
       levels = now (t .levels);
-      wakes = map bits-of (now (t .wakes))
+      wakes = map bits-of (now (t .wakes));
     }
 
 -- an answer by the parts of its plan

@@ -5,7 +5,9 @@ ghost use Rattle.std.specs.declared.option.Option.{Option};
 ghost use Rattle.std.specs.declared.option.Option.the-variants.{Some};
 ghost use Rattle.board.specs.declared.numbers.TaskNo.{TaskNo};
 ghost use Rattle.board.specs.Policies.{None-exactly-when-empty, Only-from, Exactly, Stays-or-nearest, stay as staying, Favours, favour};
+ghost use Rattle.board.specs.Planned.{chosen-by};
 ghost use Rattle.board.specs.Priorities.{Highest-then-lowest, by-priority, Stays-or-nearest-of-highest, share};
+use crate::kinds::PolicyKind;
 use crate::numbers::TaskNo;
 use crate::numbers::TaskNoNumbered;
 use crate::priorities::Priorities;
@@ -110,6 +112,26 @@ pub impl<P: Policy> Policy for Favoured<P> as FavouredPolicy {
             self.below.choose(ready, current)
         } else {
             self.below.choose(favoured, current)
+        }
+    }
+}
+
+// The policy that a plan names.
+#[derive(Clone, Copy)]
+pub struct PlanPolicy {
+    pub kind: PolicyKind,
+    pub priorities: Priorities,
+}
+
+pub impl Policy for PlanPolicy as PlanPolicyPolicy {
+    ghost chosen = { λ p s c. chosen-by (p .kind) (p .priorities .of) s c };
+
+    fn choose(&self, ready: Set<TaskNo>, current: TaskNo) -> Option<TaskNo> {
+        let priorities = self.priorities;
+        match self.kind {
+            PolicyKind::Priority => Priority { priorities }.choose(ready, current),
+            PolicyKind::Stay => Stay.choose(ready, current),
+            PolicyKind::Shared => Shared { priorities }.choose(ready, current),
         }
     }
 }

@@ -9,4 +9,4 @@ abbrev pub Inv-loop-wake : given.InvT-loop-wake
 Inv-loop-wake l =
     (l .event ≡ l .wake-index)
     × (first (wake-tests (l .tasks) (l .lines) (l .event) (map bits-of (drop (l .wake-index) (l .wakes))))
-       ≡ first (wake-tests (l .tasks) (l .lines) 0 (map bits-of (l .wakes))))
+    ≡ first (wake-tests (l .tasks) (l .lines) 0 (map bits-of (l .wakes))))

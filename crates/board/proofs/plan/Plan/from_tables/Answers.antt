@@ -47,7 +47,7 @@ returns-in-Break-rule c =
     let t = c .args .tables .now in
     refused (q .1) (q .2)
     (refused-by-rule (given t) (counted t (c .in-Continue-check-counts .ensures tt)) (c .in-Continue-policy .ensures tt)
-     (c .in-Break-rule .ensures tt))
+    (c .in-Break-rule .ensures tt))
 
 pub returns-in-Break-check-sets : need.returns-in-Break-check-sets
 returns-in-Break-check-sets c =
@@ -55,7 +55,7 @@ returns-in-Break-check-sets c =
     let t = c .args .tables .now in
     refused (q .1) (q .2)
     (refused-by-sets (given t) (counted t (c .in-Continue-check-counts .ensures tt)) (c .in-Continue-policy .ensures tt)
-     (c .in-Continue-rule .ensures tt) (c .in-Break-check-sets .ensures tt))
+    (c .in-Continue-rule .ensures tt) (c .in-Break-check-sets .ensures tt))
 
 pub ghost-result : need.ghost-result
 ghost-result c =
@@ -66,9 +66,9 @@ ghost-result c =
     let n = counts-in-range (length ps) (length ls) (length ws) (all-passed (count-tests (length ps) (length ls) (length ws)) (c .in-Continue-check-counts .ensures tt)) in
     let s = sets-known (given t) (all-passed (set-tests (given t)) (c .in-Continue-check-sets .ensures tt)) in
     let all : map bits-of (c .padded-3 .result) ≡ _ =
-        bits-padded ws (c .padded-3 .result) (c .from-bits .result) (c .from-bits .ensures) (c .padded-3 .ensures) in
+    bits-padded ws (c .padded-3 .result) (c .from-bits .result) (c .from-bits .ensures) (c .padded-3 .ensures) in
     let wakes : (e : ℕ) → getD (map bits-of (c .padded-3 .result)) e 0 < 2 ^ length ps =
-        λ e. subst (λ v. v < 2 ^ length ps) (sym (ap (λ (v : List ℕ). getD v e 0) all ∙ getD-padded (map bits-of ws) _ e)) (s .2 e) in
+    λ e. subst (λ v. v < 2 ^ length ps) (sym (ap (λ (v : List ℕ). getD v e 0) all ∙ getD-padded (map bits-of ws) _ e)) (s .2 e) in
     (n .0, (n .1, (n .2, (n .3, (s .0, (s .1, (wakes, (padded-again 0 ps _ (c .padded .ensures), (padded-again 0 ls _ (c .padded-2 .ensures), (bits-again ws (c .padded-3 .result) (c .from-bits .result) (c .from-bits .ensures) (c .padded-3 .ensures), tt))))))))))
 
 pub returns : need.returns
@@ -81,4 +81,4 @@ returns c =
     let ws : take (length (t .wakes .now)) (c .padded-3 .result) ≡ t .wakes .now = take-padded _ _ _ (c .padded-3 .ensures) in
     ap Ok (rw (policy, rule, ps, ls, ws) refl)
     ∙ accepted (given t) (counted t (c .in-Continue-check-counts .ensures tt)) (c .in-Continue-policy .ensures tt)
-      (c .in-Continue-rule .ensures tt) (c .in-Continue-check-sets .ensures tt)
+    (c .in-Continue-rule .ensures tt) (c .in-Continue-check-sets .ensures tt)

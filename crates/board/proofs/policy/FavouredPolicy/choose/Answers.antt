@@ -28,8 +28,8 @@ returns-else-is-empty g c =
     let s = c .args .ready .bits in
     let some = sym (ap (λ v. eqb v 0) (c .intersection-favoured .ensures)) ∙ sym (c .if-is-empty .ensures tt) in
     let e : c .choose-else-is-empty .result ≡ favour below f s (c .args .current) =
-        c .choose-else-is-empty .ensures
-        ∙ (ap (λ v. below v (c .args .current)) (c .intersection-favoured .ensures) ∙ sym (cond-false _ _ _ some)) in
+    c .choose-else-is-empty .ensures
+    ∙ (ap (λ v. below v (c .args .current)) (c .intersection-favoured .ensures) ∙ sym (cond-false _ _ _ some)) in
     record {
       is = e;
       exactly =

@@ -10,7 +10,7 @@ returns c =
     let ps = c .args .self .now .priorities .of in
     let s = c .args .ready .bits in
     let e : c .first-from .result ≡ by-priority ps s =
-        c .first-from .ensures ∙ ap (λ n. stay n (record { 0 = 0 })) (c .leaders .ensures) in
+    c .first-from .ensures ∙ ap (λ n. stay n (record { 0 = 0 })) (c .leaders .ensures) in
     record {
       is = e;
       exactly = subst (Exactly (Highest-then-lowest ps s)) (sym e) (by-priority-exactly ps s (search needs));

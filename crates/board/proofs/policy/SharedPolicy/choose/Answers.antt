@@ -10,7 +10,7 @@ returns c =
     let ps = c .args .self .now .priorities .of in
     let s = c .args .ready .bits in
     let e : c .first-from .result ≡ share ps s (c .args .current) =
-        c .first-from .ensures ∙ ap (λ n. stay n (c .args .current)) (c .leaders .ensures) in
+    c .first-from .ensures ∙ ap (λ n. stay n (c .args .current)) (c .leaders .ensures) in
     record {
       is = e;
       exactly =

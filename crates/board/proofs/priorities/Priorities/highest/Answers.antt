@@ -11,6 +11,7 @@ loop-t-again c =
     let ps = c .args .self .now .of in
     let s = c .args .set .bits in
     let t = c .loop-t .t in
-    elim (c .if-contains .came)
-    [ then-contains w ↦ (let step = highest-more-yes ps s t (w .if-contains .ensures tt) in cc)
-    | else-contains w ↦ (let step = highest-more-no ps s t (w .if-contains .ensures tt) in cc) ]
+    elim (c .if-contains .came) [
+      | then-contains w ↦ (let step = highest-more-yes ps s t (w .if-contains .ensures tt) in cc)
+      | else-contains w ↦ (let step = highest-more-no ps s t (w .if-contains .ensures tt) in cc)
+    ]

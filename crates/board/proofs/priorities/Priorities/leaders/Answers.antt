@@ -21,11 +21,12 @@ pub loop-t-again : need.loop-t-again
 loop-t-again c =
     let p = member-of-priority (c .args .self .now .of) (c .args .set .bits) (c .highest-high .result) in
     let t = c .loop-t .t in
-    elim (c .if-member-of-priority .came)
-    [ then-member-of-priority w ↦
-        (ap bits (w .found-is)
-         ∙ (w .with-found .ensures
-         ∙ (cond-true _ _ _ (lt-ltb t 16 (c .loop-t-test .taken))
-         ∙ (ap (λ s. bitOr s (2 ^ t)) (c .loop-t .inv) ∙ sym (gathered-more-yes p t (w .if-member-of-priority .ensures tt))))))
-    | else-member-of-priority w ↦
-        (ap bits (w .found-is) ∙ (c .loop-t .inv ∙ sym (gathered-more-no p t (w .if-member-of-priority .ensures tt)))) ]
+    elim (c .if-member-of-priority .came) [
+      | then-member-of-priority w ↦
+          (ap bits (w .found-is)
+          ∙ (w .with-found .ensures
+          ∙ (cond-true _ _ _ (lt-ltb t 16 (c .loop-t-test .taken))
+          ∙ (ap (λ s. bitOr s (2 ^ t)) (c .loop-t .inv) ∙ sym (gathered-more-yes p t (w .if-member-of-priority .ensures tt))))))
+      | else-member-of-priority w ↦
+          (ap bits (w .found-is) ∙ (c .loop-t .inv ∙ sym (gathered-more-no p t (w .if-member-of-priority .ensures tt))))
+    ]

@@ -1,0 +1,21 @@
+-- The rank of a line: 0 is the most urgent.
+use mathlib.Core.List.{List}
+use Prim.Native.Nat.{ℕ, _/_}
+use lib.ListN.{getD}
+use Rattle.board.specs.declared.numbers.LineNo.{LineNo}
+use Rattle.board.specs.declared.kinds.RankRule.{RankRule}
+use Rattle.board.specs.declared.kinds.RankRule.the-variants.{By32, By64, Flat}
+
+-- every rank is below this
+abbrev pub rank-bound : ℕ
+rank-bound = 8
+
+-- the rank that a rule gives to a level
+abbrev pub rank-at : RankRule → ℕ → ℕ
+rank-at By32 level = level / 32
+rank-at By64 level = level / 64
+rank-at Flat level = 0
+
+-- the rank of a line by the list of levels; a line past its end counts as level 0
+abbrev pub rank-by : RankRule → List ℕ → LineNo → ℕ
+rank-by rule levels line = rank-at rule (getD levels (line .0) 0)
