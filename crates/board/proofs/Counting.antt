@@ -9,7 +9,7 @@ use native.Mathlib.Omega.{arith}
 use lib.Dec.{eqb}
 use lib.ListN.{length}
 use Rattle.std.proofs.shelf.Tests.{cases-lt, cases-bool, eqb-true, eqb-false, eq-eqb, ne-eqb, or-left, or-right, or-from, true≢false}
-use Rattle.board.specs.declared.numbers.LineNo.{LineNo}
+use Rattle.numbers.specs.declared.number.LineNo.{LineNo}
 use Rattle.board.specs.Figure.{some-line, how-many, first-of-its-rank, different-ranks, figure-of, Nested, One-more-than-the-deepest-nest}
 
 abbrev line : ℕ → LineNo

@@ -9,10 +9,10 @@ use Rattle.std.specs.declared.option.Option.{Option}
 use Rattle.std.specs.declared.option.Option.the-variants.{None, Some}
 use Rattle.std.proofs.shelf.Tests.{cases-bool, eqb-true, eqb-false, eq-eqb, cond-true, cond-false, and-parts, and-from}
 use Rattle.std.proofs.shelf.Bits.{and-le-l}
-use Rattle.board.specs.declared.numbers.TaskNo.{TaskNo}
-use Rattle.board.specs.Sets.{has, both}
+use Rattle.numbers.specs.declared.number.TaskNo.{TaskNo}
+use Rattle.numbers.specs.Sets.{has, both}
 use Rattle.board.specs.Policies.{None-exactly-when-empty, Only-from, Exactly, Favours, favour}
-use Rattle.board.proofs.Members.{has-both, none-in-empty, no-member-empty, member-or-none}
+use Rattle.numbers.proofs.Members.{has-both, none-in-empty, no-member-empty, member-or-none}
 use Rattle.board.proofs.Staying.{never}
 
 module _ (below : ℕ → TaskNo → Option TaskNo) (f s : ℕ) (small : s < 2 ^ 16) where

@@ -10,12 +10,12 @@ use lib.Dec.{eqb}
 use Rattle.std.specs.declared.option.Option.{Option}
 use Rattle.std.specs.declared.option.Option.the-variants.{None, Some}
 use Rattle.std.proofs.shelf.Tests.{cases-bool, cases-lt, eqb-true, eq-eqb, cond-true, cond-false, and-parts, and-from}
-use Rattle.board.specs.declared.numbers.TaskNo.{TaskNo}
-use Rattle.board.specs.Sets.{has, gathered}
+use Rattle.numbers.specs.declared.number.TaskNo.{TaskNo}
+use Rattle.numbers.specs.Sets.{has, gathered}
 use Rattle.board.specs.Policies.{Exactly, counted, up, Nearest, stay}
 use Rattle.board.specs.Priorities.{priority-of, None-higher, Foremost, Highest-then-lowest, Nearest-of-highest, Stays-or-nearest-of-highest, highest-below, highest-priority, member-of-priority, leaders, by-priority, share}
-use Rattle.board.proofs.Members.{no-member-empty, member-small, none-in-empty}
-use Rattle.board.proofs.Gathering.{has-gathered, gathered-small}
+use Rattle.numbers.proofs.Members.{no-member-empty, member-small, none-in-empty}
+use Rattle.numbers.proofs.Gathering.{has-gathered, gathered-small}
 use Rattle.board.proofs.Staying.{Answered, never, exactly-one, task-same, stay-answers, stay-nearest, nearest-same}
 
 module _ (ps : List ℕ) (s : ℕ) where

@@ -6,8 +6,8 @@ use native.Mathlib.Numerals.{add-one}
 use native.Mathlib.Omega.{arith}
 use lib.ListN.{length, take, drop, set, getD, replicate}
 use Rattle.std.proofs.shelf.Lists.{append-assoc, map-append, length-map, length-append, length-replicate, length-take, length-take-le, set-at, take-all, take-at, take-more, take-map, drop-more, drop-replicate}
-use Rattle.board.specs.declared.numbers.TaskNo.{TaskNo}
-use Rattle.board.specs.declared.sets.Set.{Set}
+use Rattle.numbers.specs.declared.number.TaskNo.{TaskNo}
+use Rattle.numbers.specs.declared.set.Set.{Set}
 use Rattle.board.specs.Plans.{bits-of, padded}
 
 -- one more entry over what the places held before

@@ -18,8 +18,8 @@ use Rattle.board.specs.declared.kinds.PolicyKind.{PolicyKind}
 use Rattle.board.specs.declared.kinds.PolicyKind.the-variants.{Priority, Stay, Shared}
 use Rattle.board.specs.declared.kinds.RankRule.{RankRule}
 use Rattle.board.specs.declared.kinds.RankRule.the-variants.{By32, By64, Flat}
-use Rattle.board.specs.declared.numbers.TaskNo.{TaskNo}
-use Rattle.board.specs.declared.sets.Set.{Set}
+use Rattle.numbers.specs.declared.number.TaskNo.{TaskNo}
+use Rattle.numbers.specs.declared.set.Set.{Set}
 use Rattle.board.specs.declared.refusal.PlanRefusal.{PlanRefusal}
 use Rattle.board.specs.declared.refusal.PlanRefusal.the-variants.{TaskCount, LineCount, EventCount, PolicyNumber, RuleNumber, StartSet, FavouredSet, WakeSet}
 use Rattle.board.specs.Kinds.{policy-number, policy-from, rule-number, rule-from}

@@ -7,10 +7,10 @@ use native.Mathlib.Omega.{arith}
 use Rattle.std.specs.declared.option.Option.{Option}
 use Rattle.std.specs.declared.option.Option.the-variants.{None, Some}
 use Rattle.std.proofs.shelf.Tests.{cases-bool, cases-lt, cond-true, cond-false, true≢false}
-use Rattle.board.specs.declared.numbers.TaskNo.{TaskNo}
-use Rattle.board.specs.Sets.{has}
+use Rattle.numbers.specs.declared.number.TaskNo.{TaskNo}
+use Rattle.numbers.specs.Sets.{has}
 use Rattle.board.specs.Policies.{None-exactly-when-empty, Only-from, Exactly, counted, up, Between, Nearest, Stays-or-nearest, first-from, stay}
-use Rattle.board.proofs.Members.{no-member-empty, none-in-empty, member-small}
+use Rattle.numbers.proofs.Members.{no-member-empty, none-in-empty, member-small}
 
 -- none, and the set is empty; or a task of the set
 abbrev pub Answered : ℕ → Option TaskNo → Type 0

@@ -5,7 +5,7 @@ use mathlib.Core.Path.{_≡_}
 use Prim.Native.Nat.{ℕ, zero, suc, _+_, _<_}
 use lib.Dec.{eqb}
 use lib.ListN.{length}
-use Rattle.board.specs.declared.numbers.LineNo.{LineNo}
+use Rattle.numbers.specs.declared.number.LineNo.{LineNo}
 
 -- whether one of the first n lines has the rank r
 unfoldable pub some-line : (LineNo → ℕ) → ℕ → ℕ → Bool

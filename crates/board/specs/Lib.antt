@@ -1,4 +1,3 @@
-pub mod Sets
 pub mod Policies
 pub mod Priorities
 pub mod Kinds

@@ -2,7 +2,7 @@
 use mathlib.Core.List.{List}
 use Prim.Native.Nat.{ℕ}
 use Rattle.std.specs.declared.option.Option.{Option}
-use Rattle.board.specs.declared.numbers.TaskNo.{TaskNo}
+use Rattle.numbers.specs.declared.number.TaskNo.{TaskNo}
 use Rattle.board.specs.declared.kinds.PolicyKind.{PolicyKind}
 use Rattle.board.specs.declared.kinds.PolicyKind.the-variants.{Priority, Stay, Shared}
 use Rattle.board.specs.Policies.{stay}

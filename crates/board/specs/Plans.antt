@@ -8,8 +8,8 @@ use lib.ListN.{length, take, replicate}
 use Rattle.std.specs.declared.option.Option.{Option}
 use Rattle.std.specs.declared.result.Result.{Result}
 use Rattle.std.specs.declared.result.Result.the-variants.{Ok, Err}
-use Rattle.board.specs.declared.numbers.TaskNo.{TaskNo}
-use Rattle.board.specs.declared.sets.Set.{Set}
+use Rattle.numbers.specs.declared.number.TaskNo.{TaskNo}
+use Rattle.numbers.specs.declared.set.Set.{Set}
 use Rattle.board.specs.declared.refusal.PlanRefusal.{PlanRefusal}
 use Rattle.board.specs.declared.refusal.PlanRefusal.the-variants.{TaskCount, LineCount, EventCount, PolicyNumber, RuleNumber, StartSet, FavouredSet, WakeSet}
 use Rattle.board.specs.Refusing.{needs, first, unless}

@@ -2,7 +2,7 @@
 use mathlib.Core.List.{List}
 use Prim.Native.Nat.{ℕ, _/_}
 use lib.ListN.{getD}
-use Rattle.board.specs.declared.numbers.LineNo.{LineNo}
+use Rattle.numbers.specs.declared.number.LineNo.{LineNo}
 use Rattle.board.specs.declared.kinds.RankRule.{RankRule}
 use Rattle.board.specs.declared.kinds.RankRule.the-variants.{By32, By64, Flat}
 

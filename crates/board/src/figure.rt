@@ -5,8 +5,8 @@ ghost use lib.ListN.{length};
 ghost use Rattle.board.specs.Figure.{some-line, different-ranks, figure-of, One-more-than-the-deepest-nest};
 ghost use Rattle.board.specs.Viewed.{parts};
 use crate::nesting::NestingRule;
-use crate::numbers::LineNo;
 use crate::plan::Plan;
+use numbers::number::LineNo;
 
 // Whether one of the first lines has the rank.
 fn some_line<R: NestingRule>(rule: &R, lines: u8, rank: u8) -> bool

@@ -1,9 +1,9 @@
 // The policies and the nesting rules that a plan can name.
 ghost use mathlib.Core.Path.{_≡_};
-ghost use Rattle.board.specs.Kinds.{policy-number, policy-from, rule-number, rule-from};
+ghost use Rattle.board.specs.Kinds.{policy-from, rule-from};
 use crate::refusal::PlanRefusal;
 
-#[derive(Clone, Copy, PartialEq, Eq, Debug)]
+#[derive(Clone, Copy)]
 pub enum PolicyKind {
     Priority = 1,
     Stay = 2,
@@ -11,13 +11,7 @@ pub enum PolicyKind {
 }
 
 impl PolicyKind {
-    pub fn number(self) -> u8
-        ensures { λ r. ⌜ r ≡ policy-number self ⌝ }
-    {
-        self as u8
-    }
-
-    pub fn from_number(number: u8) -> Result<PolicyKind, PlanRefusal>
+    pub(crate) fn from_number(number: u8) -> Result<PolicyKind, PlanRefusal>
         ensures { λ r. ⌜ r ≡ policy-from number ⌝ }
     {
         match number {
@@ -30,7 +24,7 @@ impl PolicyKind {
 }
 
 // How a line's rank comes from its level: the level divided by 32, by 64, or rank 0 for all.
-#[derive(Clone, Copy, PartialEq, Eq, Debug)]
+#[derive(Clone, Copy)]
 pub enum RankRule {
     By32 = 1,
     By64 = 2,
@@ -38,13 +32,7 @@ pub enum RankRule {
 }
 
 impl RankRule {
-    pub fn number(self) -> u8
-        ensures { λ r. ⌜ r ≡ rule-number self ⌝ }
-    {
-        self as u8
-    }
-
-    pub fn from_number(number: u8) -> Result<RankRule, PlanRefusal>
+    pub(crate) fn from_number(number: u8) -> Result<RankRule, PlanRefusal>
         ensures { λ r. ⌜ r ≡ rule-from number ⌝ }
     {
         match number {

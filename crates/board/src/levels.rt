@@ -2,7 +2,7 @@
 ghost use mathlib.Core.Path.{_≡_};
 ghost use Prim.Native.Nat.{ℕ, _<_};
 ghost use lib.ListN.{getD};
-use crate::numbers::LineNo;
+use numbers::number::LineNo;
 
 // By line number; 0 for a line that the plan lacks.
 #[derive(Clone, Copy)]
@@ -12,13 +12,13 @@ pub struct Levels {
 }
 
 impl Levels {
-    pub fn new(of: [u8; 16]) -> Levels
+    pub(crate) fn new(of: [u8; 16]) -> Levels
         ensures { λ r. ⌜ r .of ≡ of ⌝ }
     {
         Levels { of }
     }
 
-    pub fn at(&self, line: LineNo) -> u8
+    pub(crate) fn at(&self, line: LineNo) -> u8
         ensures { λ r. ⌜ r ≡ getD (now (self .entry) .of) (line .0) 0 ⌝ }
     {
         if line.0 < 16 {

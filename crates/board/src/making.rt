@@ -4,17 +4,17 @@ ghost use mathlib.Core.List.{map};
 ghost use Prim.Native.Nat.{ℕ, _≤_};
 ghost use lib.ListN.{length};
 ghost use Rattle.board.specs.Refusing.{checked};
-ghost use Rattle.board.specs.Plans.{bits-of, count-tests, padded as padding, planned, set-tests, wake-tests};
+ghost use Rattle.board.specs.Plans.{bits-of, count-tests, number-tests, padded as padding, planned, set-tests, wake-tests};
 ghost use Rattle.board.specs.Viewed.{given, made};
 use crate::kinds::PolicyKind;
 use crate::kinds::RankRule;
-use crate::numbers::EventNo;
-use crate::numbers::TaskNo;
 use crate::plan::Plan;
 use crate::plan::Tables;
 use crate::refusal::PlanRefusal;
-use crate::sets::Set;
-use crate::sets::SetClone;
+use numbers::number::EventNo;
+use numbers::number::TaskNo;
+use numbers::set::Set;
+use numbers::set::SetClone;
 
 // The first count that is out of range is refused.
 pub fn check_counts(tasks: usize, lines: usize, events: usize) -> Result<(), PlanRefusal>
@@ -29,6 +29,15 @@ pub fn check_counts(tasks: usize, lines: usize, events: usize) -> Result<(), Pla
     if events > 16 {
         return Err(PlanRefusal::EventCount);
     }
+    Ok(())
+}
+
+// A number that names no policy or no nesting rule is refused.
+pub fn check_numbers(policy: u8, rule: u8) -> Result<(), PlanRefusal>
+    ensures { λ r. ⌜ r ≡ checked (number-tests policy rule) ⌝ }
+{
+    PolicyKind::from_number(policy)?;
+    RankRule::from_number(rule)?;
     Ok(())
 }
 

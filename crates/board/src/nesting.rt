@@ -1,11 +1,11 @@
 // Nesting rules: which handler may interrupt which.
 ghost use mathlib.Core.Path.{_≡_};
 ghost use Prim.Native.Nat.{ℕ, _<_};
-ghost use Rattle.board.specs.declared.numbers.LineNo.{LineNo};
+ghost use Rattle.numbers.specs.declared.number.LineNo.{LineNo};
 ghost use Rattle.board.specs.Ranks.{rank-bound, rank-by};
 use crate::kinds::RankRule;
 use crate::levels::Levels;
-use crate::numbers::LineNo;
+use numbers::number::LineNo;
 
 pub trait NestingRule {
     // The rank of each line; a handler interrupts only those of higher rank.
@@ -20,8 +20,8 @@ pub trait NestingRule {
 // The rule that a plan names, over the levels of its lines.
 #[derive(Clone, Copy)]
 pub struct LevelNesting {
-    pub rule: RankRule,
-    pub levels: Levels,
+    pub(crate) rule: RankRule,
+    pub(crate) levels: Levels,
 }
 
 pub impl NestingRule for LevelNesting as LevelNestingRule {

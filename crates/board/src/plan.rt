@@ -6,8 +6,8 @@ ghost use lib.ListN.{getD, take};
 ghost use Rattle.board.specs.Plans.{bits-of, padded};
 use crate::kinds::PolicyKind;
 use crate::kinds::RankRule;
-use crate::numbers::TaskNo;
-use crate::sets::Set;
+use numbers::number::TaskNo;
+use numbers::set::Set;
 
 // The tables that a plan is made from: an entry for each task, line and event.
 #[derive(Clone, Copy)]

@@ -3,16 +3,16 @@ ghost use mathlib.Core.Path.{_≡_};
 ghost use Prim.Native.Nat.{ℕ, _<_, _^_};
 ghost use Rattle.std.specs.declared.option.Option.{Option};
 ghost use Rattle.std.specs.declared.option.Option.the-variants.{Some};
-ghost use Rattle.board.specs.declared.numbers.TaskNo.{TaskNo};
+ghost use Rattle.numbers.specs.declared.number.TaskNo.{TaskNo};
 ghost use Rattle.board.specs.Policies.{None-exactly-when-empty, Only-from, Exactly, Stays-or-nearest, stay as staying, Favours, favour};
 ghost use Rattle.board.specs.Planned.{chosen-by};
 ghost use Rattle.board.specs.Priorities.{Highest-then-lowest, by-priority, Stays-or-nearest-of-highest, share};
 use crate::kinds::PolicyKind;
-use crate::numbers::TaskNo;
-use crate::numbers::TaskNoNumbered;
 use crate::priorities::Priorities;
-use crate::sets::Set;
-use crate::sets::SetClone;
+use numbers::number::TaskNo;
+use numbers::number::TaskNoNumbered;
+use numbers::set::Set;
+use numbers::set::SetClone;
 
 pub trait Policy {
     // The task that is chosen from the ready tasks, with the current task.

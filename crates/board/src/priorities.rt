@@ -1,12 +1,12 @@
 // The priorities of the tasks.
 ghost use mathlib.Core.Path.{_≡_};
 ghost use Prim.Native.Nat.{ℕ, _<_};
-ghost use Rattle.board.specs.Sets.{gathered};
+ghost use Rattle.numbers.specs.Sets.{gathered};
 ghost use Rattle.board.specs.Priorities.{highest-priority, leaders as leading, member-of-priority, priority-of};
-use crate::numbers::TaskNo;
-use crate::numbers::TaskNoNumbered;
-use crate::sets::Set;
-use crate::sets::SetClone;
+use numbers::number::TaskNo;
+use numbers::number::TaskNoNumbered;
+use numbers::set::Set;
+use numbers::set::SetClone;
 
 // By task number; 0 for a task that the plan lacks.
 #[derive(Clone, Copy)]

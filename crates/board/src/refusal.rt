@@ -1,7 +1,7 @@
 // Why tables are no plan.
-use crate::numbers::EventNo;
-use crate::numbers::EventNoDebug;
-use crate::numbers::EventNoPartialEq;
+use numbers::number::EventNo;
+use numbers::number::EventNoDebug;
+use numbers::number::EventNoPartialEq;
 
 #[derive(Clone, Copy, PartialEq, Eq, Debug)]
 pub enum PlanRefusal {

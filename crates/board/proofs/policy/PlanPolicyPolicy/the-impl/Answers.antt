@@ -4,7 +4,7 @@ use Prim.Native.Nat.{ℕ, _^_, _<_}
 use Rattle.std.specs.declared.option.Option.the-variants.{Some}
 use Rattle.board.specs.declared.kinds.PolicyKind.{PolicyKind}
 use Rattle.board.specs.declared.kinds.PolicyKind.the-variants.{Priority, Stay, Shared}
-use Rattle.board.specs.declared.numbers.TaskNo.{TaskNo}
+use Rattle.numbers.specs.declared.number.TaskNo.{TaskNo}
 use Rattle.board.specs.declared.policy.PlanPolicy.{PlanPolicy}
 use Rattle.board.specs.Planned.{chosen-by}
 use Rattle.board.specs.Priorities.{leaders}

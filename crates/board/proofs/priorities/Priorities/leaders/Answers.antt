@@ -2,10 +2,10 @@ use mathlib.Core.Path.{_≡_, sym, ap, _∙_}
 use lib.Bits.{bitOr}
 use Prim.Native.Nat.{ℕ, _+_, _^_}
 use Rattle.std.proofs.shelf.Tests.{cond-true, lt-ltb}
-use Rattle.board.specs.declared.numbers.TaskNo.{TaskNo}
-use Rattle.board.specs.declared.sets.Set.{Set}
+use Rattle.numbers.specs.declared.number.TaskNo.{TaskNo}
+use Rattle.numbers.specs.declared.set.Set.{Set}
 use Rattle.board.specs.Priorities.{member-of-priority}
-use Rattle.board.proofs.Gathering.{gathered-none, gathered-more-yes, gathered-more-no}
+use Rattle.numbers.proofs.Gathering.{gathered-none, gathered-more-yes, gathered-more-no}
 use Rattle.board.proofs.priorities.Priorities.leaders.Needs as need
 use Rattle.board.proofs.priorities.Priorities.leaders.Needs.{then-member-of-priority, else-member-of-priority}
 

@@ -1,5 +1,5 @@
 use mathlib.Core.Path.{_≡_}
-use Rattle.board.specs.Sets.{gathered}
+use Rattle.numbers.specs.Sets.{gathered}
 use Rattle.board.specs.Priorities.{member-of-priority}
 use Rattle.board.proofs.priorities.Priorities.leaders.Given as given
 

@@ -9,9 +9,9 @@ use native.Mathlib.Omega.{arith}
 use lib.Dec.{eqb, ltb}
 use lib.Bits.{bitAnd, bitOr}
 use lib.Pow.{pow-pos}
-use Rattle.std.proofs.shelf.Bits.{mod-pow-add, and-shr, and-mod, or-shr, or-mod, shl-shr, pow-add}
-use Rattle.std.proofs.shelf.Tests.{eqb-true, eqb-false, eq-eqb, le-ltb, cases-lt, cases-bool, true≢false}
-use Rattle.board.specs.Sets.{has}
+use Rattle.std.proofs.shelf.Bits.{le-div, shr-shr, shr-le, mod-pow-add, and-shr, and-mod, or-shr, or-mod, shl-shr, pow-add}
+use Rattle.std.proofs.shelf.Tests.{eqb-true, eqb-false, eq-eqb, ne-eqb, lt-ltb, ltb-true, le-ltb, cases-lt, cases-bool, true≢false}
+use Rattle.numbers.specs.Sets.{has, All-below}
 
 -- a set below 2 ^ n has no member from n on
 pub none-from : (s n i : ℕ) → s < 2 ^ n → n ≤ i → has s i ≡ false
@@ -109,3 +109,51 @@ has-single-below n i l =
     let even : 2 ^ (k + 1) ≡ 2 ^ k * 2 = pow-add 2 k 1 in
     let none : 2 ^ n / 2 ^ i % 2 ≡ 0 = omega arith in
     rw none refl
+
+-- nothing from bit k on, exactly if the number is below 2 ^ k
+pub within-shift : (s k : ℕ) → eqb (s / 2 ^ k) 0 ≡ ltb s (2 ^ k)
+within-shift s k =
+    let some : 0 < 2 ^ k = pow-pos k in
+    ⊎-elim
+    (λ (low : s < 2 ^ k). eq-eqb (s / 2 ^ k) 0 (div-eq-of-lt low) ∙ sym (lt-ltb s (2 ^ k) low))
+    (λ (high : 2 ^ k ≤ s).
+    let one : 1 ≤ s / 2 ^ k = le-div 1 s (2 ^ k) some (omega arith) in
+    ne-eqb (s / 2 ^ k) 0 (λ e. omega arith) ∙ sym (le-ltb s (2 ^ k) high))
+    (cases-lt s (2 ^ k))
+
+-- a number of two bytes has nothing from bit 16 on
+pub within-all : (s k : ℕ) → s < 2 ^ 16 → 16 ≤ k → true ≡ ltb s (2 ^ k)
+within-all s k small high =
+    let two : 0 < 2 = omega arith in
+    let wide : 2 ^ 16 ≤ 2 ^ k = pow-le-pow-right two high in
+    sym (lt-ltb s (2 ^ k) (omega arith))
+
+has-shifted : (s k i : ℕ) → has (s / 2 ^ k) i ≡ has s (k + i)
+unfolding has
+has-shifted s k i = ap (λ m. eqb (m % 2) 1) (shr-shr s k i)
+
+-- a set below 2 ^ 16 with members below k only is below 2 ^ k
+pub below-all : (s k : ℕ) → s < 2 ^ 16 → All-below k s → s < 2 ^ k
+below-all s k small below =
+    let low : s / 2 ^ k < 2 ^ 16 = omega (arith, shr-le s k) in
+    let none : s / 2 ^ k ≡ 0 =
+    no-member-empty (s / 2 ^ k) 16 low (λ i _.
+    ⊎-elim
+    (λ (h : has (s / 2 ^ k) i ≡ true). absurd (omega (arith, below (k + i) (sym (has-shifted s k i) ∙ h))))
+    (λ (h : has (s / 2 ^ k) i ≡ false). h)
+    (cases-bool (has (s / 2 ^ k) i))) in
+    ltb-true s (2 ^ k) (sym (within-shift s k) ∙ eq-eqb (s / 2 ^ k) 0 none)
+
+pub record Within (s k : ℕ) (r : Bool) : Type 0 where
+  pub is : r ≡ ltb s (2 ^ k)
+  pub yes : r ≡ true → All-below k s
+  pub no : r ≡ false → All-below k s → ⊥
+
+-- what the test says of the members
+pub within-members : (s k : ℕ) (r : Bool) → s < 2 ^ 16 → r ≡ ltb s (2 ^ k) → Within s k r
+within-members s k r small is =
+    record {
+      is = is;
+      yes = λ h n m. member-small s k n (ltb-true s (2 ^ k) (sym is ∙ h)) m;
+      no = λ h below. true≢false (sym (lt-ltb s (2 ^ k) (below-all s k small below)) ∙ (sym is ∙ h));
+    }

@@ -1,9 +1,10 @@
 // A set of tasks, of lines or of events: a number of two bytes, with bit n for number n.
+ghost use mathlib.Core.Bool.{true, false, _&&_};
 ghost use mathlib.Core.Path.{_≡_};
-ghost use Prim.Native.Nat.{ℕ, _<_, _^_};
+ghost use Prim.Native.Nat.{ℕ, _^_};
 ghost use lib.Dec.{eqb, ltb};
-ghost use Rattle.board.specs.Sets.{has, both, with-member};
-use crate::numbers::Numbered;
+ghost use Rattle.numbers.specs.Sets.{has, both, with-member, All-below};
+use crate::number::Numbered;
 use std::marker::PhantomData;
 
 #[derive_where(Clone, Copy)]
@@ -36,16 +37,23 @@ impl<N> Set<N> {
 
     // The members that both sets have.
     pub fn intersection(self, other: Set<N>) -> Set<N>
-        ensures { λ r. ⌜ r .bits ≡ both (self .bits) (other .bits) ⌝ }
+        ensures is { λ r. ⌜ r .bits ≡ both (self .bits) (other .bits) ⌝ }
+        ensures members { λ r. ⌜ ((n : ℕ) → has (r .bits) n ≡ (has (self .bits) n && has (other .bits) n)) ⌝ }
     {
         Set::from_bits(self.bits & other.bits)
     }
 
     // Whether each member is below `count`.
     pub fn within(self, count: u8) -> bool
-        ensures { λ r. ⌜ r ≡ ltb (self .bits) (2 ^ count) ⌝ }
+        ensures is { λ r. ⌜ r ≡ ltb (self .bits) (2 ^ count) ⌝ }
+        ensures yes { λ r. ⌜ (r ≡ true → All-below count (self .bits)) ⌝ }
+        ensures no { λ r. ⌜ (r ≡ false → All-below count (self .bits) → ⊥) ⌝ }
     {
-        count >= 16 || (self.bits as u32) < 1u32 << count
+        if count < 16 {
+            self.bits >> count == 0
+        } else {
+            true
+        }
     }
 }
 

@@ -4,9 +4,9 @@ use native.Mathlib.Omega.{arith}
 use Prim.Native.Nat.{_/_, _^_}
 use Rattle.std.proofs.shelf.Bits.{and-mask}
 use Rattle.std.proofs.shelf.Tests.{le-ltb}
-use Rattle.board.specs.Sets.{has}
-use Rattle.board.proofs.Members.{none-from}
-use Rattle.board.proofs.sets.Set.contains.Needs as need
+use Rattle.numbers.specs.Sets.{has}
+use Rattle.numbers.proofs.Members.{none-from}
+use Rattle.numbers.proofs.set.Set.contains.Needs as need
 
 pub returns-then-n-lt16 : need.returns-then-n-lt16
 unfolding has

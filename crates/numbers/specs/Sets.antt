@@ -1,12 +1,17 @@
 -- Sets of numbers below 16: the bits of a number below 2 ^ 16.
-use mathlib.Core.Bool.{Bool, cond}
-use Prim.Native.Nat.{ℕ, zero, suc, _/_, _%_, _^_}
+use mathlib.Core.Bool.{Bool, true, cond}
+use mathlib.Core.Path.{_≡_}
+use Prim.Native.Nat.{ℕ, zero, suc, _/_, _%_, _^_, _<_}
 use lib.Dec.{eqb, ltb}
 use lib.Bits.{bitAnd, bitOr}
 
 -- whether n is a member
 unfoldable pub has : ℕ → ℕ → Bool
 has s n = eqb (s / 2 ^ n % 2) 1
+
+-- each member is below n
+abbrev pub All-below : ℕ → ℕ → Type 0
+All-below n s = (m : ℕ) → has s m ≡ true → m < n
 
 -- the members of both sets
 abbrev pub both : ℕ → ℕ → ℕ

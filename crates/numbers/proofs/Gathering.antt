@@ -8,8 +8,8 @@ use native.Mathlib.Omega.{arith}
 use lib.Bits.{bitOr}
 use Rattle.std.proofs.shelf.Bits.{or-lt, pow-below}
 use Rattle.std.proofs.shelf.Tests.{cases-bool, cases-lt, cond-true, cond-false}
-use Rattle.board.specs.Sets.{has, gathered}
-use Rattle.board.proofs.Members.{none-from, has-either, has-single, has-single-below}
+use Rattle.numbers.specs.Sets.{has, gathered}
+use Rattle.numbers.proofs.Members.{none-from, has-either, has-single, has-single-below}
 
 or-of-false : (x : Bool) → (x || false) ≡ x
 or-of-false true = refl
