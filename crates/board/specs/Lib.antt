@@ -1,5 +1,3 @@
-pub mod Policies
-pub mod Priorities
 pub mod Kinds
 pub mod Refusing
 pub mod Plans

@@ -5,8 +5,8 @@ use Rattle.std.specs.declared.option.Option.{Option}
 use Rattle.numbers.specs.declared.number.TaskNo.{TaskNo}
 use Rattle.board.specs.declared.kinds.PolicyKind.{PolicyKind}
 use Rattle.board.specs.declared.kinds.PolicyKind.the-variants.{Priority, Stay, Shared}
-use Rattle.board.specs.Policies.{stay}
-use Rattle.board.specs.Priorities.{by-priority, share}
+use Rattle.policy.specs.Policies.{stay}
+use Rattle.policy.specs.Priorities.{by-priority, share}
 
 abbrev pub chosen-by : PolicyKind → List ℕ → ℕ → TaskNo → Option TaskNo
 chosen-by Priority ps s c = by-priority ps s

@@ -4,14 +4,14 @@ ghost use lib.ListN.{length};
 ghost use Rattle.board.specs.Kinds.{policy-number, rule-number};
 ghost use Rattle.board.specs.Plans.{padded};
 ghost use Rattle.board.specs.Viewed.{given, parts};
+use crate::choosing::PlanPolicy;
 use crate::levels::Levels;
 use crate::nesting::LevelNesting;
 use crate::plan::Plan;
 use crate::plan::Tables;
-use crate::policy::Favoured;
-use crate::policy::PlanPolicy;
-use crate::priorities::Priorities;
 use numbers::set::SetClone;
+use policy::policies::Favoured;
+use policy::priorities::Priorities;
 
 impl Plan {
     // How many tasks.

@@ -1,11 +1,10 @@
-// The lowest layer: numbers and sets, policies, nesting rules, plans and the memory figure.
+// A board: its plan, the policy and the nesting rule that it names, and its memory figure.
 pub mod asking;
+pub mod choosing;
 pub mod figure;
 pub mod kinds;
 pub mod levels;
 pub mod making;
 pub mod nesting;
 pub mod plan;
-pub mod policy;
-pub mod priorities;
 pub mod refusal;

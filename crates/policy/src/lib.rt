@@ -1,0 +1,3 @@
+// Policies: which of the ready tasks is chosen.
+pub mod policies;
+pub mod priorities;

@@ -1,0 +1,115 @@
+// Policies: which of the ready tasks is chosen.
+ghost use mathlib.Core.Path.{_≡_};
+ghost use Prim.Native.Nat.{ℕ, _<_, _^_};
+ghost use Rattle.std.specs.declared.option.Option.{Option};
+ghost use Rattle.std.specs.declared.option.Option.the-variants.{Some};
+ghost use Rattle.numbers.specs.declared.number.TaskNo.{TaskNo};
+ghost use Rattle.policy.specs.Policies.{None-exactly-when-empty, Only-from, Exactly, Stays-or-nearest, stay as staying, Favours, favour};
+ghost use Rattle.policy.specs.Priorities.{Highest-then-lowest, by-priority, Stays-or-nearest-of-highest, share};
+use crate::priorities::Priorities;
+use numbers::number::TaskNo;
+use numbers::number::TaskNoNumbered;
+use numbers::set::Set;
+use numbers::set::SetClone;
+
+pub trait Policy {
+    // The task that is chosen from the ready tasks, with the current task.
+    ghost chosen: { Self → ℕ → TaskNo → Option TaskNo };
+
+    law empty: { (p : Self) (s : ℕ) (c : TaskNo) → s < 2 ^ 16 → None-exactly-when-empty s (chosen p s c) };
+
+    law member: { (p : Self) (s : ℕ) (c : TaskNo) → s < 2 ^ 16 → Only-from s (chosen p s c) };
+
+    // Asked again, with its answer as the current task, it answers the same.
+    law settles: { (p : Self) (s : ℕ) (c t : TaskNo) → s < 2 ^ 16 → chosen p s c ≡ Some t → chosen p s t ≡ Some t };
+
+    fn choose(&self, ready: Set<TaskNo>, current: TaskNo) -> Option<TaskNo>
+        ensures { λ r. ⌜ r ≡ chosen (now (self .entry)) (ready .bits) current ⌝ };
+}
+
+// The first task of the set from a task on, going up and from 15 to 0.
+fn first_from(set: Set<TaskNo>, from: TaskNo) -> Option<TaskNo>
+    ensures { λ r. ⌜ r ≡ staying (set .bits) from ⌝ }
+{
+    let mut at = if from.0 < 16 { from.0 } else { 15 };
+    for _i in 0..16u8 {
+        if set.contains(TaskNo(at)) {
+            return Some(TaskNo(at));
+        }
+        at = (at + 1) % 16;
+    }
+    None
+}
+
+// The current task if it is ready, otherwise the next one that is.
+#[derive(Clone, Copy)]
+pub struct Stay;
+
+pub impl Policy for Stay as StayPolicy {
+    ghost chosen = { λ _ s c. staying s c };
+
+    fn choose(&self, ready: Set<TaskNo>, current: TaskNo) -> Option<TaskNo>
+        ensures is { λ r. ⌜ r ≡ staying (ready .bits) current ⌝ }
+        ensures exactly { λ r. ⌜ Exactly (Stays-or-nearest (ready .bits) current) r ⌝ }
+    {
+        first_from(ready, current)
+    }
+}
+
+// The highest priority, and among equals the lowest number.
+#[derive(Clone, Copy)]
+pub struct Priority {
+    pub priorities: Priorities,
+}
+
+pub impl Policy for Priority as PriorityPolicy {
+    ghost chosen = { λ p s _. by-priority (p .priorities .of) s };
+
+    fn choose(&self, ready: Set<TaskNo>, current: TaskNo) -> Option<TaskNo>
+        ensures is { λ r. ⌜ r ≡ by-priority (now (self .entry) .priorities .of) (ready .bits) ⌝ }
+        ensures exactly { λ r. ⌜ Exactly (Highest-then-lowest (now (self .entry) .priorities .of) (ready .bits)) r ⌝ }
+    {
+        let _ = current;
+        first_from(self.priorities.leaders(ready), TaskNo(0))
+    }
+}
+
+// As `Stay`, among the tasks with the highest priority.
+#[derive(Clone, Copy)]
+pub struct Shared {
+    pub priorities: Priorities,
+}
+
+pub impl Policy for Shared as SharedPolicy {
+    ghost chosen = { λ p s c. share (p .priorities .of) s c };
+
+    fn choose(&self, ready: Set<TaskNo>, current: TaskNo) -> Option<TaskNo>
+        ensures is { λ r. ⌜ r ≡ share (now (self .entry) .priorities .of) (ready .bits) current ⌝ }
+        ensures exactly { λ r. ⌜ Exactly (Stays-or-nearest-of-highest (now (self .entry) .priorities .of) (ready .bits) current) r ⌝ }
+    {
+        first_from(self.priorities.leaders(ready), current)
+    }
+}
+
+// A group of tasks that go first, over any policy. An empty group favours nobody.
+#[derive(Clone, Copy)]
+pub struct Favoured<P> {
+    pub group: Set<TaskNo>,
+    pub below: P,
+}
+
+pub impl<P: Policy> Policy for Favoured<P> as FavouredPolicy {
+    ghost chosen = { λ f s c. favour (P·Policy .chosen (f .below)) (f .group .bits) s c };
+
+    fn choose(&self, ready: Set<TaskNo>, current: TaskNo) -> Option<TaskNo>
+        ensures is { λ r. ⌜ r ≡ favour (P·Policy .chosen (now (self .entry) .below)) (now (self .entry) .group .bits) (ready .bits) current ⌝ }
+        ensures exactly { λ r. ⌜ Exactly (Favours (P·Policy .chosen (now (self .entry) .below)) (now (self .entry) .group .bits) (ready .bits) current) r ⌝ }
+    {
+        let favoured = ready.intersection(self.group);
+        if favoured.is_empty() {
+            self.below.choose(ready, current)
+        } else {
+            self.below.choose(favoured, current)
+        }
+    }
+}
