@@ -2,3 +2,4 @@ pub mod Refusing
 pub mod Padding
 pub mod Planning
 pub mod Counting
+pub mod Legality

@@ -28,18 +28,18 @@ use Rattle.board.specs.Plans.{Parts, bits-of, count-tests, number-tests, withi
 use Rattle.board.proofs.Refusing.{first-append, all-passed, first-failed, needs-met}
 
 -- the numbers of policies and rules
-abbrev policy-test : ℕ → Option PlanRefusal
+abbrev pub policy-test : ℕ → Option PlanRefusal
 policy-test n = needs (leb 1 n && leb n 3) PolicyNumber
 
-abbrev rule-test : ℕ → Option PlanRefusal
+abbrev pub rule-test : ℕ → Option PlanRefusal
 rule-test n = needs (leb 1 n && leb n 3) RuleNumber
 
-policy-legal : (k : PolicyKind) → policy-test (policy-number k) ≡ None
+pub policy-legal : (k : PolicyKind) → policy-test (policy-number k) ≡ None
 policy-legal Priority = refl
 policy-legal Stay = refl
 policy-legal Shared = refl
 
-rule-legal : (k : RankRule) → rule-test (rule-number k) ≡ None
+pub rule-legal : (k : RankRule) → rule-test (rule-number k) ≡ None
 rule-legal By32 = refl
 rule-legal By64 = refl
 rule-legal Flat = refl
@@ -75,7 +75,7 @@ module _ (p : Parts) where
   stages =
       ap (λ f. unless f p) (first-append counts (number-tests (p .policy) (p .rule) ++ set-tests p))
 
-  by-stages :
+  pub by-stages :
       {a b c d : Option PlanRefusal} → first counts ≡ a → policy-test (p .policy) ≡ b → rule-test (p .rule) ≡ c → first (set-tests p) ≡ d →
       planned p ≡ unless (or-else a (or-else b (or-else c d))) p
   by-stages ha hb hc hd = rw (← ha, ← hb, ← hc, ← hd) stages

@@ -2,7 +2,8 @@
 ghost use mathlib.Core.Path.{_≡_};
 ghost use lib.ListN.{length};
 ghost use Rattle.board.specs.Kinds.{policy-number, rule-number};
-ghost use Rattle.board.specs.Plans.{padded};
+ghost use Rattle.board.specs.Plans.{padded, planned};
+ghost use Rattle.std.specs.declared.result.Result.the-variants.{Ok};
 ghost use Rattle.board.specs.Viewed.{given, parts};
 use crate::choosing::PlanPolicy;
 use crate::levels::Levels;
@@ -37,7 +38,8 @@ impl Plan {
 
     // Each part of the plan, under its name: the tables that make this plan.
     pub fn tables(&self) -> Tables<'_>
-        ensures { λ r. ⌜ given r ≡ parts (now (self .entry)) ⌝ }
+        ensures is { λ r. ⌜ given r ≡ parts (now (self .entry)) ⌝ }
+        ensures legal { λ _. ⌜ planned (parts (now (self .entry))) ≡ Ok (parts (now (self .entry))) ⌝ }
     {
         let priorities = &self.priorities;
         let levels = &self.levels;
