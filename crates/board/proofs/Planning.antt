@@ -106,8 +106,19 @@ module _ (p : Parts) where
             (by-stages (all-passed counts counted) (policy-known (p .policy) k policy) (rule-known (p .rule) r rule)
             (all-passed (set-tests p) h))
 
+-- with counts and numbers passed, the sets are left
+pub planned-by-sets :
+    (p : Parts) → first (count-tests (length (p .priorities)) (length (p .levels)) (length (p .wakes))) ≡ None →
+    first (number-tests (p .policy) (p .rule)) ≡ None → planned p ≡ unless (first (set-tests p)) p
+planned-by-sets p counts numbers =
+    let n = number-tests (p .policy) (p .rule) in
+    ap (λ f. unless f p)
+    (first-append (count-tests (length (p .priorities)) (length (p .levels)) (length (p .wakes))) (n ++ set-tests p)
+     ∙ (ap (λ f. or-else f (first (n ++ set-tests p))) counts
+     ∙ (first-append n (set-tests p) ∙ ap (λ f. or-else f (first (set-tests p))) numbers)))
+
 -- what passed tests say
-or-else-none : {E : Type 0} (a b : Option E) → or-else a b ≡ None → (a ≡ None) × (b ≡ None)
+pub or-else-none : {E : Type 0} (a b : Option E) → or-else a b ≡ None → (a ≡ None) × (b ≡ None)
 or-else-none None b h = (refl, h)
 or-else-none (Some e) b h = let z : _≡_ {A = ℕ} 0 1 = cc in absurd (omega arith)
 

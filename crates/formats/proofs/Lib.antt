@@ -1,0 +1,5 @@
+pub mod Words
+pub mod Parts
+pub mod Stages
+pub mod OneForm
+pub mod RoundTrip

@@ -1,0 +1,4 @@
+pub mod Faults
+pub mod Wire
+pub mod Decode
+pub mod Written

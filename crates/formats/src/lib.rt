@@ -1,0 +1,4 @@
+// The bytes of plans: reading them, writing them, and the faults of both.
+pub mod fault;
+pub mod read;
+pub mod write;
