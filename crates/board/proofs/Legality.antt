@@ -50,21 +50,21 @@ module _ (p : Plan) where
   wake-small : (k : ℕ) → getD (parts p .wakes) k 0 < 2 ^ p .tasks
   wake-small k =
       let e : getD (parts p .wakes) k 0 ≡ getD (map bits-of (p .wakes)) k 0 =
-          sym (getD-padded (parts p .wakes) _ k) ∙ ap (λ (v : List ℕ). getD v k 0) (p .«no_more_wakes») in
+      sym (getD-padded (parts p .wakes) _ k) ∙ ap (λ (v : List ℕ). getD v k 0) (p .«no_more_wakes») in
       subst (λ v. v < 2 ^ p .tasks) (sym e) (p .«known_wakes» k)
 
   sets-met : first (set-tests (parts p)) ≡ None
   sets-met =
       let set : (s : ℕ) → s < 2 ^ p .tasks → within s (length (parts p .priorities)) ≡ true =
-          λ s low. lt-ltb s _ (subst (λ t. s < 2 ^ t) (sym tasks) low) in
+      λ s low. lt-ltb s _ (subst (λ t. s < 2 ^ t) (sym tasks) low) in
       met StartSet _ _ (set (p .start .bits) (p .«known_start»))
       (met FavouredSet _ _ (set (p .favoured .bits) (p .«known_favoured»))
-       (wakes-met (length (parts p .priorities)) (length (parts p .levels)) 0 (parts p .wakes)
-        (λ k. subst (λ t. getD (parts p .wakes) k 0 < 2 ^ t) (sym tasks) (wake-small k))))
+      (wakes-met (length (parts p .priorities)) (length (parts p .levels)) 0 (parts p .wakes)
+      (λ k. subst (λ t. getD (parts p .wakes) k 0 < 2 ^ t) (sym tasks) (wake-small k))))
 
   pub plan-legal : planned (parts p) ≡ Ok (parts p)
   plan-legal =
       by-stages (parts p)
       (counts-met _ _ _ (subst (λ t. 1 ≤ t) (sym tasks) (p .some)) (subst (λ t. t ≤ 16) (sym tasks) (p .«few_tasks»))
-       (subst (λ t. t ≤ 16) (sym lines) (p .«few_lines»)) (subst (λ t. t ≤ 16) (sym events) (p .«few_events»)))
+      (subst (λ t. t ≤ 16) (sym lines) (p .«few_lines»)) (subst (λ t. t ≤ 16) (sym events) (p .«few_events»)))
       (policy-legal (p .policy)) (rule-legal (p .rule)) sets-met

@@ -114,8 +114,8 @@ planned-by-sets p counts numbers =
     let n = number-tests (p .policy) (p .rule) in
     ap (λ f. unless f p)
     (first-append (count-tests (length (p .priorities)) (length (p .levels)) (length (p .wakes))) (n ++ set-tests p)
-     ∙ (ap (λ f. or-else f (first (n ++ set-tests p))) counts
-     ∙ (first-append n (set-tests p) ∙ ap (λ f. or-else f (first (set-tests p))) numbers)))
+    ∙ (ap (λ f. or-else f (first (n ++ set-tests p))) counts
+    ∙ (first-append n (set-tests p) ∙ ap (λ f. or-else f (first (set-tests p))) numbers)))
 
 -- what passed tests say
 pub or-else-none : {E : Type 0} (a b : Option E) → or-else a b ≡ None → (a ≡ None) × (b ≡ None)

@@ -3,3 +3,4 @@ pub mod Parts
 pub mod Stages
 pub mod OneForm
 pub mod RoundTrip
+pub mod Placing

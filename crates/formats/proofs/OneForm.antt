@@ -63,8 +63,10 @@ module _ (bs : List ℕ) (bytes : Bytes bs) where
   module _ (whole : size-at bs ≤ length bs) where
     abbrev t : ℕ
     t = getD bs 5 0
+
     abbrev l : ℕ
     l = getD bs 6 0
+
     abbrev n : ℕ
     n = getD bs 7 0
 
@@ -87,7 +89,7 @@ module _ (bs : List ℕ) (bytes : Bytes bs) where
         let D : List ℕ = drop (size-at bs) bs in
         let w : twos (words W) ≡ W = twos-words W n wakes-long (bytes-between (14 + t + l) (size-at bs)) in
         let a1 : (P ++ (Q ++ W)) ++ D ≡ P ++ (Q ++ (W ++ D)) =
-            append-assoc P (Q ++ W) D ∙ ap (λ x. P ++ x) (append-assoc Q W D) in
+        append-assoc P (Q ++ W) D ∙ ap (λ x. P ++ x) (append-assoc Q W D) in
         let b1 : W ++ D ≡ drop (14 + t + l) bs = between-drop (14 + t + l) (size-at bs) bs (omega arith) in
         let b2 : Q ++ drop (14 + t + l) bs ≡ drop (14 + t) bs = between-drop (14 + t) (14 + t + l) bs (omega arith) in
         let b3 : P ++ drop (14 + t) bs ≡ drop 14 bs = between-drop 14 (14 + t) bs (omega arith) in
@@ -137,7 +139,7 @@ module _ (bs : List ℕ) (bytes : Bytes bs) where
       let c = or-else-none (carried (first (numbers bs))) _ (b .1) in
       let d = or-else-none (long bs) _ (c .1) in
       let whole : size-at bs ≤ length bs =
-          leb-true (size-at bs) (length bs) (needs-met (Short (length bs)) (leb (size-at bs) (length bs)) (d .0)) in
+      leb-true (size-at bs) (length bs) (needs-met (Short (length bs)) (leb (size-at bs) (length bs)) (d .0)) in
       let parts : p ≡ parts-at bs = ap (λ (x : Parts × List ℕ). x .0) (read .1) in
       let after : rest ≡ drop (size-at bs) bs = ap (λ (x : Parts × List ℕ). x .1) (read .1) in
       ap (λ x. encode x ++ rest) parts ∙ (ap (λ x. encode (parts-at bs) ++ x) after ∙ form-back whole (a .0))

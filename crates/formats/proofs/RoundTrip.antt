@@ -41,8 +41,10 @@ unless-carried None p rest = refl
 module _ (p : Parts) where
   abbrev t : ℕ
   t = length (p .priorities)
+
   abbrev l : ℕ
   l = length (p .levels)
+
   abbrev n : ℕ
   n = length (p .wakes)
 
@@ -68,17 +70,17 @@ module _ (p : Parts) where
         let lw : length W ≡ 2 * n = length-twos (p .wakes) in
         let f1 : bs ≡ head p ++ (P ++ ((Q ++ W) ++ rest)) = ap (λ z. head p ++ z) (append-assoc P (Q ++ W) rest) in
         let f2 : bs ≡ (head p ++ P) ++ (Q ++ (W ++ rest)) =
-            f1 ∙ (sym (append-assoc (head p) P ((Q ++ W) ++ rest)) ∙ ap (λ z. (head p ++ P) ++ z) (append-assoc Q W rest)) in
+        f1 ∙ (sym (append-assoc (head p) P ((Q ++ W) ++ rest)) ∙ ap (λ z. (head p ++ P) ++ z) (append-assoc Q W rest)) in
         let f3 : bs ≡ ((head p ++ P) ++ Q) ++ (W ++ rest) = f2 ∙ sym (append-assoc (head p ++ P) Q (W ++ rest)) in
         let l1 : length (head p ++ P) ≡ 14 + t = length-append (head p) P ∙ omega arith in
         let l2 : length ((head p ++ P) ++ Q) ≡ 14 + t + l = length-append (head p ++ P) Q ∙ omega arith in
         let ps : between 14 (14 + t) bs ≡ P =
-            ap (between 14 (14 + t)) f1 ∙ between-at (head p) P _ 14 (14 + t) refl (omega arith) in
+        ap (between 14 (14 + t)) f1 ∙ between-at (head p) P _ 14 (14 + t) refl (omega arith) in
         let ls : between (14 + t) (14 + t + l) bs ≡ Q =
-            ap (between (14 + t) (14 + t + l)) f2 ∙ between-at (head p ++ P) Q _ (14 + t) (14 + t + l) l1 (omega arith) in
+        ap (between (14 + t) (14 + t + l)) f2 ∙ between-at (head p ++ P) Q _ (14 + t) (14 + t + l) l1 (omega arith) in
         let ws : between (14 + t + l) (size t l n) bs ≡ W =
-            ap (between (14 + t + l) (size t l n)) f3
-            ∙ between-at ((head p ++ P) ++ Q) W _ (14 + t + l) (size t l n) l2 (omega arith) in
+        ap (between (14 + t + l) (size t l n)) f3
+        ∙ between-at ((head p ++ P) ++ Q) W _ (14 + t + l) (size t l n) l2 (omega arith) in
         same-parts (p .policy) (p .rule) (joined (p .start) start) (joined (p .favoured) favoured) ps ls
         (ap words ws ∙ words-twos (p .wakes) wakes)
 
@@ -100,7 +102,7 @@ module _ (p : Parts) where
     read-back =
         let after : drop (size t l n) bs ≡ rest = drop-at (encode p) rest (size t l n) length-encode in
         let same : _≡_ {A = Parts × List ℕ} (parts-at bs, drop (size t l n) bs) (p, rest) =
-            ap (λ q. (q, drop (size t l n) bs)) parts-back ∙ ap (λ r. (p, r)) after in
+        ap (λ q. (q, drop (size t l n) bs)) parts-back ∙ ap (λ r. (p, r)) after in
         ap (λ o. unless o (parts-at bs, drop (size t l n) bs)) tests-back
         ∙ (ap (unless (carried (first (plan-tests p)))) same ∙ unless-carried (first (plan-tests p)) p rest)
 

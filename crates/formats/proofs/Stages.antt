@@ -54,18 +54,18 @@ module _ (bs : List ℕ) where
   pub stages :
       first (byte-tests bs)
       ≡ or-else (first (head-tests bs))
-        (or-else (carried (first counts)) (or-else (carried (first numbers)) (or-else long (carried (first sets)))))
+      (or-else (carried (first counts)) (or-else (carried (first numbers)) (or-else long (carried (first sets)))))
   stages =
       let d = long ∷ map carried sets in
       let c = map carried numbers ++ d in
       first-append (head-tests bs) (map carried counts ++ c)
       ∙ ap (or-else (first (head-tests bs)))
-        (first-append (map carried counts) c
-         ∙ (ap (λ x. or-else x (first c)) (first-carried counts)
-         ∙ ap (or-else (carried (first counts)))
-           (first-append (map carried numbers) d
-            ∙ (ap (λ x. or-else x (first d)) (first-carried numbers)
-            ∙ ap (λ x. or-else (carried (first numbers)) (or-else long x)) (first-carried sets)))))
+      (first-append (map carried counts) c
+      ∙ (ap (λ x. or-else x (first c)) (first-carried counts)
+      ∙ ap (or-else (carried (first counts)))
+      (first-append (map carried numbers) d
+      ∙ (ap (λ x. or-else x (first d)) (first-carried numbers)
+      ∙ ap (λ x. or-else (carried (first numbers)) (or-else long x)) (first-carried sets)))))
 
   pub by-stages :
       {h l : Option PlanFault} {c n s : Option PlanRefusal} → first (head-tests bs) ≡ h → first counts ≡ c →
@@ -89,15 +89,15 @@ module _ (bs : List ℕ) where
       fault-in-numbers h =
           sym
           (ap answer
-           (by-stages (all-passed (head-tests bs) head) (all-passed counts counted) (first-failed numbers h) refl refl))
+          (by-stages (all-passed (head-tests bs) head) (all-passed counts counted) (first-failed numbers h) refl refl))
 
       module _ {w : Unit {0}} (numbered : Ok w ≡ checked numbers) where
         pub fault-in-size : length bs < size-at bs → Err (Short (length bs)) ≡ decode bs
         fault-in-size short =
             sym
             (ap answer
-             (by-stages (all-passed (head-tests bs) head) (all-passed counts counted) (all-passed numbers numbered)
-              (needs-no _ _ (lt-leb (size-at bs) (length bs) short)) refl))
+            (by-stages (all-passed (head-tests bs) head) (all-passed counts counted) (all-passed numbers numbered)
+            (needs-no _ _ (lt-leb (size-at bs) (length bs) short)) refl))
 
         module _ (whole : size-at bs ≤ length bs) where
           -- the counts are the lengths of the parts
@@ -109,9 +109,9 @@ module _ (bs : List ℕ) where
               let n = getD bs 7 0 in
               let a : length (between 14 (14 + t) bs) ≡ t = length-between bs 14 (14 + t) (omega arith) ∙ omega arith in
               let b : length (between (14 + t) (14 + t + l) bs) ≡ l =
-                  length-between bs (14 + t) (14 + t + l) (omega arith) ∙ omega arith in
+              length-between bs (14 + t) (14 + t + l) (omega arith) ∙ omega arith in
               let d : length (between (14 + t + l) (size-at bs) bs) ≡ 2 * n =
-                  length-between bs (14 + t + l) (size-at bs) (omega arith) ∙ omega arith in
+              length-between bs (14 + t + l) (size-at bs) (omega arith) ∙ omega arith in
               let e : length (words (between (14 + t + l) (size-at bs) bs)) ≡ n = length-words _ n d in
               ap (λ x. count-tests x (length (between (14 + t) (14 + t + l) bs)) (length (words (between (14 + t + l) (size-at bs) bs)))) a
               ∙ (ap (λ x. count-tests t x (length (words (between (14 + t + l) (size-at bs) bs)))) b ∙ ap (λ x. count-tests t l x) e)
@@ -124,7 +124,7 @@ module _ (bs : List ℕ) where
           decoded h =
               ap answer
               (by-stages (all-passed (head-tests bs) head) (all-passed counts counted) (all-passed numbers numbered)
-               (needs-yes _ _ (le-leb (size-at bs) (length bs) whole)) h)
+              (needs-yes _ _ (le-leb (size-at bs) (length bs) whole)) h)
 
           refused-sets : {e : PlanRefusal} (found : Option PlanRefusal) → Err e ≡ unless found (parts-at bs) → found ≡ Some e
           refused-sets {e} None h = let z : _≡_ {A = ℕ} 0 1 = cc in absurd (omega arith)

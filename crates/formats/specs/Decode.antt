@@ -39,7 +39,7 @@ parts-at bs =
       favoured = word bs 12;
       priorities = between 14 levels-at bs;
       levels = between levels-at wakes-at bs;
-      wakes = words (between wakes-at (size-at bs) bs)
+      wakes = words (between wakes-at (size-at bs) bs);
     }
 
 abbrev pub head-tests : List ℕ → List (Option PlanFault)
@@ -68,6 +68,12 @@ Bytes bs = (i : ℕ) → getD bs i 0 < 256
 -- the parts of a plan
 abbrev pub Legal : Parts → Type 0
 Legal p = planned p ≡ Ok p
+
+-- every set is a number of two bytes
+pub record Two-byte-sets (p : Parts) : Type 0 where
+  pub start : p .start < 65536
+  pub favoured : p .favoured < 65536
+  pub wakes : (k : ℕ) → getD (p .wakes) k 0 < 65536
 
 -- an answer about tables, with some bytes after them
 abbrev pub with-rest : List ℕ → Result Parts PlanRefusal → Result (Parts × List ℕ) PlanFault

@@ -63,11 +63,13 @@ impl PlanFault {
             PlanFault::Refused(PlanRefusal::RuleNumber) => 9,
             PlanFault::Refused(PlanRefusal::StartSet) => 10,
             PlanFault::Refused(PlanRefusal::FavouredSet) => 12,
-            PlanFault::Refused(PlanRefusal::WakeSet {
-                tasks,
-                lines,
-                event,
-            }) => 14 + *tasks as usize + *lines as usize + 2 * event.0 as usize,
+            PlanFault::Refused(
+                PlanRefusal::WakeSet {
+                    tasks,
+                    lines,
+                    event,
+                },
+            ) => 14 + *tasks as usize + *lines as usize + 2 * event.0 as usize,
             PlanFault::Buffer(length) => *length,
         }
     }

@@ -66,15 +66,17 @@ fn plan_at(bytes: &[u8]) -> Result<Plan, PlanRefusal>
     let wakes_at = levels_at + bytes[6] as usize;
     let events = bytes[7] as usize;
     let wakes = sets_in(&bytes[wakes_at..wakes_at + 2 * events], events);
-    Plan::from_tables(&Tables {
-        policy: bytes[8],
-        rule: bytes[9],
-        start: Set::from_bits(word_at(bytes, 10)),
-        favoured: Set::from_bits(word_at(bytes, 12)),
-        priorities: &bytes[14..levels_at],
-        levels: &bytes[levels_at..wakes_at],
-        wakes: &wakes[0..events],
-    })
+    Plan::from_tables(
+        &Tables {
+            policy: bytes[8],
+            rule: bytes[9],
+            start: Set::from_bits(word_at(bytes, 10)),
+            favoured: Set::from_bits(word_at(bytes, 12)),
+            priorities: &bytes[14..levels_at],
+            levels: &bytes[levels_at..wakes_at],
+            wakes: &wakes[0..events],
+        },
+    )
 }
 
 // The plan that begins the bytes, and its size.
@@ -99,6 +101,8 @@ pub fn read_plan<'a>(bytes: &mut &'a [u8]) -> Result<Plan, PlanFault>
     ensures answer { λ r. ⌜ read-as r (now (now (bytes .exit))) ≡ decode (now (now (bytes .entry))) ⌝ }
     ensures kept { λ r. ⌜ refused r (λ _. now (now (bytes .exit)) ≡ now (now (bytes .entry))) ⌝ }
     ensures whole { λ r. ⌜ accepted r (λ plan. encode (parts plan) ++ now (now (bytes .exit)) ≡ now (now (bytes .entry))) ⌝ }
+    ensures one_form { λ r. ⌜ accepted r (λ plan. (other : List ℕ) → Bytes other → decode other ≡ Ok (parts plan, now (now (bytes .exit))) → other ≡ now (now (bytes .entry))) ⌝ }
+    ensures no_further { λ r. ⌜ accepted r (λ plan. (more : List ℕ) → decode (encode (parts plan) ++ more) ≡ Ok (parts plan, more)) ⌝ }
     ensures first { λ r. ⌜ refused r (λ fault. Comes-first (byte-tests (now (now (bytes .entry)))) fault) ⌝ }
     ensures no_plan { λ r. ⌜ refused r (λ _. Begins-with-a-plan (now (now (bytes .entry))) → ⊥) ⌝ }
 {

@@ -49,7 +49,7 @@ returns-in-Break-check-numbers c =
       answer =
           refused bs (q .1) (q .2)
           (fault-in-numbers bs (c .in-Continue-check-head .ensures tt) (c .in-Continue-check-counts .ensures tt)
-           (c .in-Break-check-numbers .ensures tt));
+          (c .in-Break-check-numbers .ensures tt));
       size = made-from-err (r .result) _ (r .ensures .0);
       bytes = search needs;
     }
@@ -63,7 +63,7 @@ returns-in-Break-plan c =
       answer =
           refused bs (q .1) (q .2)
           (fault-in-sets bs (c .in-Continue-check-head .ensures tt) (c .in-Continue-check-counts .ensures tt)
-           (c .in-Continue-check-numbers .ensures tt) (c .if-bytes-size .left) (c .in-Break-plan .ensures tt));
+          (c .in-Continue-check-numbers .ensures tt) (c .if-bytes-size .left) (c .in-Break-plan .ensures tt));
       size = made-from-err (r .result) _ (r .ensures .0);
       bytes = search needs;
     }

@@ -21,5 +21,5 @@ returns c =
     let wakes = ap (λ n. map bits-of (take n (c .sets-in-wakes .result))) (sub-zero events) ∙ c .sets-in-wakes .ensures in
     c .from-tables .ensures
     ∙ ap planned
-      (same-parts (getD bs 8 0) (getD bs 9 0) (c .from-bits .ensures ∙ c .word-at .ensures)
-       (c .from-bits-2 .ensures ∙ c .word-at-2 .ensures) ps ls wakes)
+    (same-parts (getD bs 8 0) (getD bs 9 0) (c .from-bits .ensures ∙ c .word-at .ensures)
+    (c .from-bits-2 .ensures ∙ c .word-at-2 .ensures) ps ls wakes)

@@ -9,6 +9,7 @@ use Rattle.std.specs.declared.option.Option.the-variants.{None, Some}
 use Rattle.std.specs.declared.result.Result.the-variants.{Ok, Err}
 use Rattle.board.specs.Refusing.{first, unless, Comes-first}
 use Rattle.board.specs.Viewed.{parts}
+use Rattle.board.proofs.Legality.{plan-legal}
 use Rattle.board.proofs.Refusing.{first-comes-first}
 use Rattle.formats.specs.declared.fault.PlanFault.{PlanFault}
 use Rattle.formats.specs.Decode.{Begins-with-a-plan, byte-tests, decode}
@@ -36,18 +37,22 @@ returns-in-Break-plan c =
     let bs = c .args .bytes .now .now in
     let e = c .in-Break-plan .field-0 .0 in
     let why : Err e ≡ decode bs = c .in-Break-plan .ensures tt .answer in
-    rw (q .1, q .2) (record { answer = why; kept = refl; whole = tt; first = comes-first bs e why; no-plan = no-plan-begins bs e why })
+    rw (q .1, q .2) (record { answer = why; kept = refl; whole = tt; one-form = tt; no-further = tt; first = comes-first bs e why; no-plan = no-plan-begins bs e why })
 
 pub returns : need.returns
 returns c =
     let bs = c .args .bytes .now .now in
     let a =
-        ap (λ v. Ok (parts (c .in-Continue-plan .plan), v)) (take-rest bs (c .in-Continue-plan .size))
-        ∙ c .in-Continue-plan .ensures tt .answer in
+    ap (λ v. Ok (parts (c .in-Continue-plan .plan), v)) (take-rest bs (c .in-Continue-plan .size))
+    ∙ c .in-Continue-plan .ensures tt .answer in
+    let plan = c .in-Continue-plan .plan in
+    let whole = one-form bs (c .in-Continue-plan .ensures tt .bytes) (parts plan) _ (sym a) in
     record {
       answer = a;
       kept = tt;
-      whole = one-form bs (c .in-Continue-plan .ensures tt .bytes) (parts (c .in-Continue-plan .plan)) _ (sym a);
+      whole = whole;
+      one-form = λ other bytes read. sym (one-form other bytes (parts plan) _ read) ∙ whole;
+      no-further = legal-read-back (parts plan) (plan-legal plan);
       first = tt;
       no-plan = tt;
     }

@@ -1,0 +1,67 @@
+use mathlib.Core.List.{List, map}
+use mathlib.Core.Path.{_≡_, sym, ap, _∙_}
+use Prim.Native.Nat.{ℕ, _+_, _*_, _≤_, _<_}
+use native.Mathlib.Omega.{arith}
+use lib.ListN.{length, drop}
+use Rattle.std.proofs.shelf.Lists.{length-map}
+use Rattle.std.specs.declared.result.Result.the-variants.{Ok}
+use Rattle.board.specs.Plans.{Parts, bits-of}
+use Rattle.board.specs.Viewed.{parts}
+use Rattle.board.proofs.Legality.{plan-legal}
+use Rattle.formats.specs.Decode.{decode}
+use Rattle.formats.specs.Wire.{size, twos}
+use Rattle.formats.specs.Written.{placed}
+use Rattle.formats.proofs.Placing.{too-short, written}
+use Rattle.formats.proofs.RoundTrip.{legal-read-back}
+use Rattle.formats.proofs.write.write_plan.Needs as need
+
+pub returns-then-out-size : need.returns-then-out-size
+returns-then-out-size c =
+    let p = parts (c .args .plan .now) in
+    let o = c .args .out .now in
+    let short : length o < size (length (p .priorities)) (length (p .levels)) (length (p .wakes)) =
+    omega (arith, c .if-out-size .taken, c .tasks .ensures, c .lines .ensures, c .events .ensures) in
+    let h = too-short p o short in
+    record { answer = h .answer; buffer = h .buffer; reads-back = tt }
+
+pub returns : need.returns
+returns c =
+    let p = parts (c .args .plan .now) in
+    let o = c .args .out .now in
+    let v1 = c .put .last .out in
+    let v2 = c .put-2 .last .out in
+    let v3 = c .put-3 .last .out in
+    let v4 = c .put-sets .last .out in
+    let same = c .tables-tables .ensures .is in
+    let t : c .tasks .result ≡ length (p .priorities) = c .tasks .ensures in
+    let l : c .lines .result ≡ length (p .levels) = c .lines .ensures in
+    let n : c .events .result ≡ length (p .wakes) = c .events .ensures in
+    let at : 14 + c .tasks .result + c .lines .result ≡ 14 + length (p .priorities) + length (p .levels) = omega arith in
+    let whole : 14 + c .tasks .result + c .lines .result + 2 * c .events .result ≡ size (length (p .priorities)) (length (p .levels)) (length (p .wakes)) =
+    omega arith in
+    let fits : size (length (p .priorities)) (length (p .levels)) (length (p .wakes)) ≤ length o =
+    omega (arith, c .if-out-size .left) in
+    let h =
+    written p o v1 v2 v3 v4 fits (c .put .ensures ∙ ap (placed o 0) (c .head-of .ensures))
+    (c .put-2 .ensures ∙ ap (λ (q : Parts). placed v1 14 (q .priorities)) same)
+    (c .put-3 .ensures
+    ∙ (ap (λ (q : Parts). placed v2 (14 + c .tasks .result) (q .levels)) same
+    ∙ ap (λ k. placed v2 (14 + k) (p .levels)) t))
+    (c .put-sets .ensures
+    ∙ (ap (λ (q : Parts). placed v3 (14 + c .tasks .result + c .lines .result) (twos (q .wakes))) same
+    ∙ ap (λ k. placed v3 k (twos (p .wakes))) at)) in
+    record {
+      answer = ap Ok whole ∙ h .answer;
+      buffer = h .buffer;
+      reads-back =
+          ap decode (h .bytes)
+          ∙ (legal-read-back p (plan-legal (c .args .plan .now)) _ ∙ ap (λ k. Ok (p, drop k o)) (sym whole));
+    }
+
+pub put-sets-requires : need.put-sets-requires
+put-sets-requires c κs =
+    let p = parts (c .args .plan .now) in
+    let sets = c .tables-tables .result .wakes .now in
+    let same : map bits-of sets ≡ p .wakes = ap (λ (q : Parts). q .wakes) (c .tables-tables .ensures .is) in
+    let n : length sets ≡ length (p .wakes) = sym (length-map sets bits-of) ∙ ap length same in
+    omega (arith, c .if-out-size .left, c .events .ensures)
