@@ -1,9 +1,11 @@
 // The questions to a plan.
 ghost use mathlib.Core.Path.{_≡_};
 ghost use lib.ListN.{length};
-ghost use Rattle.board.specs.Kinds.{policy-number, rule-number};
+ghost use Rattle.board.specs.Kinds.{policy-number};
 ghost use Rattle.board.specs.Plans.{padded, planned};
 ghost use Rattle.std.specs.declared.result.Result.the-variants.{Ok};
+ghost use Rattle.board.specs.Ranks.{plan-rank, rank-by};
+ghost use Rattle.numbers.specs.declared.number.LineNo.{LineNo};
 ghost use Rattle.board.specs.Viewed.{given, parts};
 use crate::choosing::PlanPolicy;
 use crate::levels::Levels;
@@ -74,8 +76,7 @@ impl Plan {
 
     // The plan's nesting rule.
     pub fn nesting(&self) -> LevelNesting
-        ensures rule { λ r. ⌜ rule-number (r .rule) ≡ parts (now (self .entry)) .rule ⌝ }
-        ensures levels { λ r. ⌜ r .levels .of ≡ padded 0 (parts (now (self .entry)) .levels) ⌝ }
+        ensures { λ r. ⌜ ((i : LineNo) → rank-by (r .rule) (r .levels .of) i ≡ plan-rank (parts (now (self .entry))) i) ⌝ }
     {
         LevelNesting {
             rule: self.rule,
