@@ -20,6 +20,6 @@ returns c =
     λ i.
     let p = c .args .self .now in
     let level : getD (p .levels) (i .0) 0 ≡ getD (take (p .lines) (p .levels)) (i .0) 0 =
-        ap (λ (v : List ℕ). getD v (i .0) 0) (sym (p .«no_more_levels»)) ∙ getD-padded (take (p .lines) (p .levels)) _ (i .0) in
+    ap (λ (v : List ℕ). getD v (i .0) 0) (sym (p .«no_more_levels»)) ∙ getD-padded (take (p .lines) (p .levels)) _ (i .0) in
     ap (λ (v : List ℕ). rank-at (p .rule) (getD v (i .0) 0)) (c .new .ensures)
     ∙ (by-number (p .rule) (getD (p .levels) (i .0) 0) ∙ ap (rank-numbered (rule-number (p .rule))) level)
