@@ -392,12 +392,18 @@ def kind(data, text):
 
 # Running the program.
 
+LATE = []  # the inputs that had no answer in time
+
+
 def run(command, data):
     """The status and output of the program, or None and the trouble."""
+    if len(LATE) >= MOST_SHOWN:
+        return None, b"not run, too many had no answer in time"
     try:
         done = subprocess.run(command, input=data, stdout=subprocess.PIPE,
                               stderr=subprocess.DEVNULL, timeout=WAIT)
     except subprocess.TimeoutExpired:
+        LATE.append(data)
         return None, b"no answer in time"
     except OSError as trouble:
         return None, str(trouble).encode()

@@ -1,0 +1,12 @@
+// The worked cases as a theorem.
+ghost use mathlib.Core.Path.{_≡_};
+ghost use lib.ListN.{length};
+ghost use Rattle.cases.specs.Worked.{Worked-cases-follow, cases};
+
+// How many worked cases there are; each of them follows from the rules.
+pub fn worked_cases() -> u8
+    ensures all { λ _. ⌜ Worked-cases-follow ⌝ }
+    ensures count { λ r. ⌜ r ≡ length cases ⌝ }
+{
+    14
+}
