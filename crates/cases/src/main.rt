@@ -10,6 +10,7 @@ use board::plan::Tables;
 use formats::fault::PlanFault;
 use formats::make::plan_from_tables;
 use formats::read::read_plan;
+use formats::write::write_plan;
 use numbers::number::LineNo;
 use numbers::number::TaskNo;
 use numbers::set::Set;
@@ -67,6 +68,26 @@ fn show_changed(rt: &impl Print, at: usize, byte: u8) -> io::Result<()> {
     show_read(rt, &bytes)
 }
 
+// Writes the board back into a buffer, and shows what the buffer then holds.
+fn show_written(rt: &impl Print, out: &mut [u8]) -> io::Result<()> {
+    let bytes = BOARD;
+    let mut rest: &[u8] = &bytes;
+    let Ok(plan) = read_plan(&mut rest) else {
+        return println!(rt, "refused");
+    };
+    match write_plan(&plan, out) {
+        Ok(size) => println!(rt, "writes {size}")?,
+        Err(fault) => {
+            let number = fault.number();
+            let place = fault.place();
+            println!(rt, "refused {number} {place}")?;
+        }
+    }
+    let same = out.len() >= 19 && &out[0..19] == &bytes;
+    let last = out.last().copied().unwrap_or(0);
+    println!(rt, "buffer same {same} last {last}")
+}
+
 fn plan_with(policy: u8, rule: u8, favoured: u16, levels: &[u8]) -> Result<Plan, PlanFault> {
     plan_from_tables(
         &Tables {
@@ -113,6 +134,8 @@ fn main(rt: LibcRuntime) -> io::Result<()> {
     show_changed(&rt, 5, 0)?;
     show_changed(&rt, 5, 17)?;
     show_changed(&rt, 10, 4)?;
+    show_written(&rt, &mut [7; 20])?;
+    show_written(&rt, &mut [7; 18])?;
     show_figure(&rt, 1, &[31])?;
     show_figure(&rt, 1, &[32])?;
     show_figure(&rt, 1, &[32, 64, 96])?;

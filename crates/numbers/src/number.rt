@@ -23,7 +23,8 @@ pub impl Numbered for TaskNo as TaskNoNumbered {
     ghost number = { λ t. t .0 };
 
     fn number(self) -> u8 {
-        self.0
+        let TaskNo(number) = self;
+        number
     }
 }
 
@@ -31,7 +32,8 @@ pub impl Numbered for LineNo as LineNoNumbered {
     ghost number = { λ i. i .0 };
 
     fn number(self) -> u8 {
-        self.0
+        let LineNo(number) = self;
+        number
     }
 }
 
@@ -39,6 +41,7 @@ pub impl Numbered for EventNo as EventNoNumbered {
     ghost number = { λ e. e .0 };
 
     fn number(self) -> u8 {
-        self.0
+        let EventNo(number) = self;
+        number
     }
 }

@@ -26,7 +26,8 @@ impl<N> Set<N> {
     pub fn bits(self) -> u16
         ensures { λ r. ⌜ r ≡ self .bits ⌝ }
     {
-        self.bits
+        let Set { bits, .. } = self;
+        bits
     }
 
     pub fn is_empty(self) -> bool

@@ -23,8 +23,8 @@ pub enum ProgramFault {
 pub impl From<PlanFault> for ProgramFault as ProgramFaultFromPlan {
     ghost converts = { λ lower fault. fault ≡ Plan lower };
 
-    fn from(lower: PlanFault) -> ProgramFault {
-        ProgramFault::Plan(lower)
+    fn from(fault: PlanFault) -> ProgramFault {
+        ProgramFault::Plan(fault)
     }
 }
 
@@ -64,5 +64,47 @@ impl ProgramFault {
         let place = self.place();
         let layer = self.layer();
         format!(heap, "refused {number} {place} {layer}")
+    }
+}
+
+#[cfg(test)]
+mod tests {
+    use super::*;
+    use board::refusal::PlanRefusal;
+    use numbers::number::EventNo;
+    use std::test::*;
+
+    // The faults with the lines that they print.
+    #[test]
+    fn refusal_lines(rt: LibcRuntime) -> Result<(), Fail> {
+        let wake = PlanRefusal::WakeSet {
+            tasks: 2,
+            lines: 1,
+            event: EventNo(3),
+        };
+        let table = [
+            (ProgramFault::TooLong, "refused 21 65536 4"),
+            (ProgramFault::from(PlanFault::Short(18)), "refused 1 18 1"),
+            (ProgramFault::from(PlanFault::Mark), "refused 2 0 1"),
+            (ProgramFault::from(PlanFault::Version), "refused 3 3 1"),
+            (
+                ProgramFault::from(PlanFault::Refused(PlanRefusal::EventCount)),
+                "refused 4 7 1",
+            ),
+            (
+                ProgramFault::from(PlanFault::Refused(PlanRefusal::RuleNumber)),
+                "refused 5 9 1",
+            ),
+            (
+                ProgramFault::from(PlanFault::Refused(wake)),
+                "refused 6 23 1",
+            ),
+            (ProgramFault::from(PlanFault::Buffer(7)), "refused 10 7 1"),
+        ];
+        for (fault, text) in table {
+            let line = fault.line(rt.alloc())?;
+            check(line.as_str() == text)?;
+        }
+        Ok(())
     }
 }
