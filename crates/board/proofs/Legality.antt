@@ -17,7 +17,7 @@ use Rattle.board.specs.Kinds.{policy-number, rule-number}
 use Rattle.board.specs.Refusing.{needs, or-else, first, unless}
 use Rattle.board.specs.Plans.{Parts, bits-of, padded, within, count-tests, wake-tests, set-tests, planned}
 use Rattle.board.specs.Viewed.{parts}
-use Rattle.board.proofs.Padding.{length-first, length-wakes, getD-padded}
+use Rattle.board.proofs.Padding.{getD-padded}
 use Rattle.board.proofs.Planning.{by-stages, policy-legal, rule-legal}
 
 met : {E : Type 0} (e : E) (b : Bool) (o : Option E) → b ≡ true → o ≡ None → or-else (needs b e) o ≡ None
@@ -39,13 +39,13 @@ wakes-met t l e (w ∷ ws) h =
 
 module _ (p : Plan) where
   tasks : length (parts p .priorities) ≡ p .tasks
-  tasks = length-first 0 (p .tasks) (p .priorities) (p .«few_tasks») (p .«no_more_priorities»)
+  tasks = p .«priorities_counted»
 
   lines : length (parts p .levels) ≡ p .lines
-  lines = length-first 0 (p .lines) (p .levels) (p .«few_lines») (p .«no_more_levels»)
+  lines = p .«levels_counted»
 
   events : length (parts p .wakes) ≡ p .events
-  events = length-wakes (p .events) (p .wakes) (p .«few_events») (p .«no_more_wakes»)
+  events = p .«wakes_counted»
 
   wake-small : (k : ℕ) → getD (parts p .wakes) k 0 < 2 ^ p .tasks
   wake-small k =

@@ -3,3 +3,4 @@ pub mod Padding
 pub mod Planning
 pub mod Counting
 pub mod Legality
+pub mod Ranking

@@ -73,23 +73,3 @@ module _ (ws all : List (Set TaskNo)) (z : Set TaskNo) (empty : z .bits ≡ 0) (
 
   pub bits-again : padded 0 (map bits-of (take (length ws) all)) ≡ map bits-of all
   bits-again = ap (λ v. padded 0 (map bits-of v)) (take-padded z ws all e) ∙ sym bits-padded
-
-length-padded : {A : Type 0} (z : A) (xs : List A) → length xs ≤ 16 → length (padded z xs) ≡ 16
-length-padded z xs few =
-    length-append xs (replicate (16 - length xs) z)
-    ∙ (ap (λ n. length xs + n) (length-replicate (16 - length xs) z) ∙ omega arith)
-
--- a table whose places after the first n hold z has sixteen places
-pub length-first : {A : Type 0} (z : A) (n : ℕ) (all : List A) → n ≤ 16 → padded z (take n all) ≡ all → length (take n all) ≡ n
-length-first z n all few e =
-    let t = length-take n all in
-    let p = length-padded z (take n all) (omega arith) in
-    let whole : length all ≡ 16 = ap length (sym e) ∙ p in
-    omega arith
-
-pub length-wakes :
-    (n : ℕ) (all : List (Set TaskNo)) → n ≤ 16 → padded 0 (map bits-of (take n all)) ≡ map bits-of all →
-    length (map bits-of (take n all)) ≡ n
-length-wakes n all few e =
-    let m = take-map bits-of n all in
-    ap length (sym m) ∙ length-first 0 n (map bits-of all) few (ap (padded 0) m ∙ e)

@@ -2,6 +2,7 @@
 use mathlib.Core.Bool.{Bool, true, false, cond, _&&_}
 use mathlib.Core.List.{List, [], _∷_, _++_, map}
 use mathlib.Core.Path.{_≡_, refl, sym, ap, subst, _∙_}
+use mathlib.Core.Logic.{⊎-elim}
 use Prim.Native.Nat.{ℕ, zero, suc, _+_, _^_, _<_, _≤_}
 use native.Mathlib.Omega.{arith}
 use lib.Dec.{leb, ltb, eqb}
@@ -11,8 +12,7 @@ use Rattle.std.specs.declared.option.Option.{Option}
 use Rattle.std.specs.declared.option.Option.the-variants.{None, Some}
 use Rattle.std.specs.declared.result.Result.{Result}
 use Rattle.std.specs.declared.result.Result.the-variants.{Ok, Err}
-use Rattle.std.proofs.shelf.Tests.{ltb-true, leb-true, and-parts}
-use Rattle.std.proofs.shelf.Ways.{tells}
+use Rattle.std.proofs.shelf.Tests.{cases-lt, eqb-false, eqb-true, lt-leb, ltb-true, leb-true, and-parts}
 use Rattle.std.proofs.shelf.Lists.{drop-all, drop-more}
 use Rattle.board.specs.declared.kinds.PolicyKind.{PolicyKind}
 use Rattle.board.specs.declared.kinds.PolicyKind.the-variants.{Priority, Stay, Shared}
@@ -44,15 +44,57 @@ rule-legal By32 = refl
 rule-legal By64 = refl
 rule-legal Flat = refl
 
+-- three things with the numbers 1, 2 and 3
+module _ {A E : Type 0} (x y z : A) (d : E) where
+  abbrev numbered : ℕ → Result A E
+  numbered n = cond (eqb n 1) (Ok x) (cond (eqb n 2) (Ok y) (cond (eqb n 3) (Ok z) (Err d)))
+
+  by-tests :
+      (a b c : Bool) (P : Result A E → Type 0) → (a ≡ true → P (Ok x)) → (b ≡ true → P (Ok y)) → (c ≡ true → P (Ok z)) →
+      (a ≡ false → b ≡ false → c ≡ false → P (Err d)) →
+      P (cond a (Ok x) (cond b (Ok y) (cond c (Ok z) (Err d))))
+  by-tests true b c P f g h k = f refl
+  by-tests false true c P f g h k = g refl
+  by-tests false false true P f g h k = h refl
+  by-tests false false false P f g h k = k refl refl refl
+
+  number-known :
+      (n : ℕ) (number : A → ℕ) → number x ≡ 1 → number y ≡ 2 → number z ≡ 3 → (k : A) → Ok k ≡ numbered n → number k ≡ n
+  number-known n number is-x is-y is-z k =
+      by-tests (eqb n 1) (eqb n 2) (eqb n 3) (λ r. Ok k ≡ r → number k ≡ n)
+      (λ t e. let same : k ≡ x = cc in ap number same ∙ (is-x ∙ sym (eqb-true n 1 t)))
+      (λ t e. let same : k ≡ y = cc in ap number same ∙ (is-y ∙ sym (eqb-true n 2 t)))
+      (λ t e. let same : k ≡ z = cc in ap number same ∙ (is-z ∙ sym (eqb-true n 3 t)))
+      (λ a b c e. let z : _≡_ {A = ℕ} 0 1 = cc in absurd (omega arith))
+
+  outside : (n : ℕ) → (n ≡ 1 → ⊥) → (n ≡ 2 → ⊥) → (n ≡ 3 → ⊥) → (leb 1 n && leb n 3) ≡ false
+  outside n a b c =
+      ⊎-elim
+      (λ (least : n < 1). ap (λ v. v && leb n 3) (lt-leb 1 n least))
+      (λ (some : 1 ≤ n).
+      let high : 3 < n = omega arith in
+      ap (λ v. leb 1 n && v) (lt-leb n 3 high) ∙ and-false (leb 1 n))
+      (cases-lt n 1)
+    where
+      and-false : (v : Bool) → (v && false) ≡ false
+      and-false true = refl
+      and-false false = refl
+
+  number-unknown : (n : ℕ) (e : E) → Err e ≡ numbered n → needs (leb 1 n && leb n 3) d ≡ Some e
+  number-unknown n e =
+      by-tests (eqb n 1) (eqb n 2) (eqb n 3) (λ r. Err e ≡ r → needs (leb 1 n && leb n 3) d ≡ Some e)
+      (λ t h. let z : _≡_ {A = ℕ} 0 1 = cc in absurd (omega arith))
+      (λ t h. let z : _≡_ {A = ℕ} 0 1 = cc in absurd (omega arith))
+      (λ t h. let z : _≡_ {A = ℕ} 0 1 = cc in absurd (omega arith))
+      (λ a b c h.
+      let same : d ≡ e = cc in
+      ap (λ v. needs v d) (outside n (eqb-false n 1 a) (eqb-false n 2 b) (eqb-false n 3 c)) ∙ ap Some same)
+
 pub policy-back : (n : ℕ) (k : PolicyKind) → Ok k ≡ policy-from n → policy-number k ≡ n
-policy-back n Priority h = grind (arith, tells)
-policy-back n Stay h = grind (arith, tells)
-policy-back n Shared h = grind (arith, tells)
+policy-back n k h = number-known Priority Stay Shared PolicyNumber n policy-number refl refl refl k h
 
 pub rule-back : (n : ℕ) (k : RankRule) → Ok k ≡ rule-from n → rule-number k ≡ n
-rule-back n By32 h = grind (arith, tells)
-rule-back n By64 h = grind (arith, tells)
-rule-back n Flat h = grind (arith, tells)
+rule-back n k h = number-known By32 By64 Flat RuleNumber n rule-number refl refl refl k h
 
 policy-known : (n : ℕ) (k : PolicyKind) → Ok k ≡ policy-from n → policy-test n ≡ None
 policy-known n k h = subst (λ m. policy-test m ≡ None) (policy-back n k h) (policy-legal k)
@@ -61,10 +103,10 @@ rule-known : (n : ℕ) (k : RankRule) → Ok k ≡ rule-from n → rule-test n �
 rule-known n k h = subst (λ m. rule-test m ≡ None) (rule-back n k h) (rule-legal k)
 
 policy-unknown : (n : ℕ) (e : PlanRefusal) → Err e ≡ policy-from n → policy-test n ≡ Some e
-policy-unknown n e h = grind (arith, tells)
+policy-unknown n e h = number-unknown Priority Stay Shared PolicyNumber n e h
 
 rule-unknown : (n : ℕ) (e : PlanRefusal) → Err e ≡ rule-from n → rule-test n ≡ Some e
-rule-unknown n e h = grind (arith, tells)
+rule-unknown n e h = number-unknown By32 By64 Flat RuleNumber n e h
 
 -- the stages of a plan's tests
 module _ (p : Parts) where

@@ -1,10 +1,12 @@
 -- The parts of a plan and of tables, as the code holds them.
 use mathlib.Core.List.{List, map}
+use mathlib.Core.Path.{_≡_}
 use Prim.Native.Nat.{ℕ}
-use lib.ListN.{take}
+use lib.ListN.{length, take}
 use denote.Ref.{now}
 use Rattle.std.specs.declared.result.Result.{Result}
 use Rattle.std.specs.declared.result.Result.the-variants.{Ok, Err}
+use Rattle.board.specs.declared.plan.Counts.{Counts}
 use Rattle.board.specs.declared.plan.Plan.{Plan}
 use Rattle.board.specs.declared.plan.Tables.{Tables}
 use Rattle.board.specs.Kinds.{policy-number, rule-number}
@@ -21,6 +23,12 @@ parts p =
       levels = take (p .lines) (p .levels);
       wakes = map bits-of (take (p .events) (p .wakes));
     }
+
+-- the counts of a plan are the lengths of its tables
+pub record Counted (p : Parts) (counts : Counts) : Type 0 where
+  pub tasks : counts .tasks ≡ length (p .priorities)
+  pub lines : counts .lines ≡ length (p .levels)
+  pub events : counts .events ≡ length (p .wakes)
 
 abbrev pub given : Tables → Parts
 given t =

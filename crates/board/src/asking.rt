@@ -1,15 +1,12 @@
 // The questions to a plan.
 ghost use mathlib.Core.Path.{_≡_};
-ghost use lib.ListN.{length};
-ghost use Rattle.board.specs.Kinds.{policy-number};
-ghost use Rattle.board.specs.Plans.{padded, planned};
-ghost use Rattle.std.specs.declared.result.Result.the-variants.{Ok};
-ghost use Rattle.board.specs.Ranks.{plan-rank, rank-by};
-ghost use Rattle.numbers.specs.declared.number.LineNo.{LineNo};
-ghost use Rattle.board.specs.Viewed.{given, parts};
+ghost use Rattle.board.specs.Kinds.{policy-number, rule-number};
+ghost use Rattle.board.specs.Plans.{padded};
+ghost use Rattle.board.specs.Viewed.{Counted, given, parts};
 use crate::choosing::PlanPolicy;
 use crate::levels::Levels;
 use crate::nesting::LevelNesting;
+use crate::plan::Counts;
 use crate::plan::Plan;
 use crate::plan::Tables;
 use numbers::set::SetClone;
@@ -17,31 +14,19 @@ use policy::policies::Favoured;
 use policy::priorities::Priorities;
 
 impl Plan {
-    // How many tasks.
-    pub fn tasks(&self) -> u8
-        ensures { λ r. ⌜ r ≡ length (parts (now (self .entry)) .priorities) ⌝ }
+    pub fn counts(&self) -> Counts
+        ensures { λ r. ⌜ Counted (parts (now (self .entry))) r ⌝ }
     {
-        self.tasks
-    }
-
-    // How many lines.
-    pub fn lines(&self) -> u8
-        ensures { λ r. ⌜ r ≡ length (parts (now (self .entry)) .levels) ⌝ }
-    {
-        self.lines
-    }
-
-    // How many events.
-    pub fn events(&self) -> u8
-        ensures { λ r. ⌜ r ≡ length (parts (now (self .entry)) .wakes) ⌝ }
-    {
-        self.events
+        Counts {
+            tasks: self.tasks,
+            lines: self.lines,
+            events: self.events,
+        }
     }
 
     // Each part of the plan, under its name: the tables that make this plan.
     pub fn tables(&self) -> Tables<'_>
-        ensures is { λ r. ⌜ given r ≡ parts (now (self .entry)) ⌝ }
-        ensures legal { λ _. ⌜ planned (parts (now (self .entry))) ≡ Ok (parts (now (self .entry))) ⌝ }
+        ensures { λ r. ⌜ given r ≡ parts (now (self .entry)) ⌝ }
     {
         let priorities = &self.priorities;
         let levels = &self.levels;
@@ -76,7 +61,8 @@ impl Plan {
 
     // The plan's nesting rule.
     pub fn nesting(&self) -> LevelNesting
-        ensures { λ r. ⌜ ((i : LineNo) → rank-by (r .rule) (r .levels .of) i ≡ plan-rank (parts (now (self .entry))) i) ⌝ }
+        ensures rule { λ r. ⌜ rule-number (r .rule) ≡ parts (now (self .entry)) .rule ⌝ }
+        ensures levels { λ r. ⌜ r .levels .of ≡ padded 0 (parts (now (self .entry)) .levels) ⌝ }
     {
         LevelNesting {
             rule: self.rule,

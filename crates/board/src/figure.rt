@@ -20,12 +20,13 @@ fn some_line<R: NestingRule>(rule: &R, lines: u8, rank: u8) -> bool
     false
 }
 
-// How many different ranks the plan's lines have.
-pub fn ranks<R: NestingRule>(plan: &Plan, rule: &R) -> u8
-    ensures { λ r. ⌜ r ≡ different-ranks (R·NestingRule .ranked (now (rule .entry))) (length (parts (now (plan .entry)) .levels)) ⌝ }
+// How many different ranks the first lines have.
+fn ranks_of<R: NestingRule>(lines: u8, rule: &R) -> u8
+    ensures is { λ r. ⌜ r ≡ different-ranks (R·NestingRule .ranked (now (rule .entry))) lines ⌝ }
+    ensures few { λ r. ⌜ r ≤ lines ⌝ }
 {
     let mut different = 0;
-    for i in 0..plan.lines() {
+    for i in 0..lines {
         if !some_line(rule, i, rule.rank(LineNo(i))) {
             different += 1;
         }
@@ -33,10 +34,26 @@ pub fn ranks<R: NestingRule>(plan: &Plan, rule: &R) -> u8
     different
 }
 
+// One more.
+fn figure_of<R: NestingRule>(lines: u8, rule: &R) -> u8
+    requires { ⌜ lines ≤ 16 ⌝ }
+    ensures is { λ r. ⌜ r ≡ figure-of (R·NestingRule .ranked (now (rule .entry))) lines ⌝ }
+    ensures nests { λ r. ⌜ One-more-than-the-deepest-nest (R·NestingRule .ranked (now (rule .entry))) lines r ⌝ }
+{
+    1 + ranks_of(lines, rule)
+}
+
+// How many different ranks the plan's lines have.
+pub fn ranks<R: NestingRule>(plan: &Plan, rule: &R) -> u8
+    ensures { λ r. ⌜ r ≡ different-ranks (R·NestingRule .ranked (now (rule .entry))) (length (parts (now (plan .entry)) .levels)) ⌝ }
+{
+    ranks_of(plan.lines, rule)
+}
+
 // One more than the number of different ranks of the plan's lines.
 pub fn figure<R: NestingRule>(plan: &Plan, rule: &R) -> u8
     ensures is { λ r. ⌜ r ≡ figure-of (R·NestingRule .ranked (now (rule .entry))) (length (parts (now (plan .entry)) .levels)) ⌝ }
     ensures nests { λ r. ⌜ One-more-than-the-deepest-nest (R·NestingRule .ranked (now (rule .entry))) (length (parts (now (plan .entry)) .levels)) r ⌝ }
 {
-    1 + ranks(plan, rule)
+    figure_of(plan.lines, rule)
 }

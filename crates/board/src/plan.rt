@@ -2,7 +2,7 @@
 ghost use mathlib.Core.Path.{_≡_};
 ghost use mathlib.Core.List.{map};
 ghost use Prim.Native.Nat.{ℕ, _^_, _<_, _≤_};
-ghost use lib.ListN.{getD, take};
+ghost use lib.ListN.{getD, length, take};
 ghost use Rattle.board.specs.Plans.{bits-of, padded};
 use crate::kinds::PolicyKind;
 use crate::kinds::RankRule;
@@ -19,6 +19,14 @@ pub struct Tables<'a> {
     pub priorities: &'a [u8],
     pub levels: &'a [u8],
     pub wakes: &'a [Set<TaskNo>],
+}
+
+// How many tasks, lines and events a plan has.
+#[derive(Clone, Copy)]
+pub struct Counts {
+    pub tasks: u8,
+    pub lines: u8,
+    pub events: u8,
 }
 
 // The arrays have the plan's entries first, and zeros and empty sets after them.
@@ -41,6 +49,9 @@ pub struct Plan {
     ghost known_start: { start .bits < 2 ^ tasks },
     ghost known_favoured: { favoured .bits < 2 ^ tasks },
     ghost known_wakes: { (e : ℕ) → getD (map bits-of wakes) e 0 < 2 ^ tasks },
+    ghost priorities_counted: { length (take tasks priorities) ≡ tasks },
+    ghost levels_counted: { length (take lines levels) ≡ lines },
+    ghost wakes_counted: { length (map bits-of (take events wakes)) ≡ events },
     ghost no_more_priorities: { padded 0 (take tasks priorities) ≡ priorities },
     ghost no_more_levels: { padded 0 (take lines levels) ≡ levels },
     ghost no_more_wakes: { padded 0 (map bits-of (take events wakes)) ≡ map bits-of wakes },

@@ -1,9 +1,8 @@
 // Why tables are no plan.
 use numbers::number::EventNo;
 use numbers::number::EventNoDebug;
-use numbers::number::EventNoPartialEq;
 
-#[derive(Clone, Copy, PartialEq, Eq, Debug)]
+#[derive(Clone, Copy, Debug)]
 pub enum PlanRefusal {
     // a count that is out of range
     TaskCount,

@@ -16,7 +16,7 @@ use Rattle.board.specs.Plans.{Parts}
 use Rattle.board.specs.Ranks.{plan-rank}
 use Rattle.formats.specs.declared.fault.PlanFault.{PlanFault}
 use Rattle.formats.specs.Decode.{decode}
-use Rattle.formats.specs.Faults.{plan-number, plan-place}
+use Rattle.formats.specs.Faults.{plan-refusal}
 
 -- a question
 pub data Question : Type 0 where
@@ -50,7 +50,7 @@ lines-only rule levels =
 
 abbrev of-reading : Result (Parts × List ℕ) PlanFault → Answer
 of-reading (Ok reading) = plan (reading .0) (reading .1)
-of-reading (Err fault) = refused (plan-number fault) (plan-place fault)
+of-reading (Err fault) = refused (plan-refusal fault .number) (plan-refusal fault .place)
 
 -- what the rules answer
 abbrev pub by-the-rules : Question → Answer

@@ -3,6 +3,7 @@ use Prim.Native.Nat.{ℕ, _+_, _*_}
 use Rattle.board.specs.declared.refusal.PlanRefusal.{PlanRefusal}
 use Rattle.board.specs.declared.refusal.PlanRefusal.the-variants.{TaskCount, LineCount, EventCount, PolicyNumber, RuleNumber, StartSet, FavouredSet, WakeSet}
 use Rattle.formats.specs.declared.fault.PlanFault.{PlanFault}
+use Rattle.formats.specs.declared.fault.Refusal.{Refusal}
 use Rattle.formats.specs.declared.fault.PlanFault.the-variants.{Short, Mark, Version, Refused, Buffer}
 
 abbrev refusal-number : PlanRefusal → ℕ
@@ -39,5 +40,6 @@ plan-place Version = 3
 plan-place (Refused refusal) = refusal-place refusal
 plan-place (Buffer length) = length
 
-abbrev pub plan-layer : PlanFault → ℕ
-plan-layer fault = 1
+-- a plan's fault has layer 1
+abbrev pub plan-refusal : PlanFault → Refusal
+plan-refusal fault = record { number = plan-number fault; place = plan-place fault; layer = 1 }

@@ -1,12 +1,11 @@
 // Why plan bytes, tables or a buffer are refused.
 ghost use mathlib.Core.Path.{_≡_};
 ghost use Rattle.formats.specs.declared.fault.PlanFault.the-variants.{Refused};
-ghost use Rattle.formats.specs.Faults.{plan-number, plan-place, plan-layer};
+ghost use Rattle.formats.specs.Faults.{plan-number, plan-place, plan-refusal};
 use board::refusal::PlanRefusal;
 use board::refusal::PlanRefusalDebug;
-use board::refusal::PlanRefusalPartialEq;
 
-#[derive(Clone, Copy, PartialEq, Eq, Debug)]
+#[derive(Clone, Copy, Debug)]
 pub enum PlanFault {
     // fewer bytes than a plan has; with their number
     Short(usize),
@@ -28,9 +27,26 @@ pub impl From<PlanRefusal> for PlanFault as PlanFaultFromRefusal {
     }
 }
 
+// How a fault is told: its number, its place in the part that was read, and the layer that refused.
+#[derive(Clone, Copy)]
+pub struct Refusal {
+    pub number: u8,
+    pub place: usize,
+    pub layer: u8,
+}
+
 impl PlanFault {
-    // The number of the refusal.
-    pub fn number(&self) -> u8
+    pub fn refusal(&self) -> Refusal
+        ensures { λ r. ⌜ r ≡ plan-refusal (now (self .entry)) ⌝ }
+    {
+        Refusal {
+            number: self.number(),
+            place: self.place(),
+            layer: 1,
+        }
+    }
+
+    fn number(&self) -> u8
         ensures { λ r. ⌜ r ≡ plan-number (now (self .entry)) ⌝ }
     {
         match self {
@@ -49,7 +65,7 @@ impl PlanFault {
     }
 
     // The place in the plan's bytes, or the length that is too short.
-    pub fn place(&self) -> usize
+    fn place(&self) -> usize
         ensures { λ r. ⌜ r ≡ plan-place (now (self .entry)) ⌝ }
     {
         match self {
@@ -72,12 +88,5 @@ impl PlanFault {
             ) => 14 + *tasks as usize + *lines as usize + 2 * event.0 as usize,
             PlanFault::Buffer(length) => *length,
         }
-    }
-
-    // The layer that refused.
-    pub fn layer(&self) -> u8
-        ensures { λ r. ⌜ r ≡ plan-layer (now (self .entry)) ⌝ }
-    {
-        1
     }
 }

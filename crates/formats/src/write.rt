@@ -38,6 +38,7 @@ fn put_sets(out: &mut [u8], at: usize, sets: &[Set<TaskNo>])
 fn head_of(plan: &Plan) -> [u8; 14]
     ensures { λ r. ⌜ r ≡ head (parts (now (plan .entry))) ⌝ }
 {
+    let counts = plan.counts();
     let tables = plan.tables();
     let [start_low, start_high] = tables.start.bits().to_le_bytes();
     let [favoured_low, favoured_high] = tables.favoured.bits().to_le_bytes();
@@ -47,9 +48,9 @@ fn head_of(plan: &Plan) -> [u8; 14]
         b'N',
         1,
         0,
-        plan.tasks(),
-        plan.lines(),
-        plan.events(),
+        counts.tasks,
+        counts.lines,
+        counts.events,
         tables.policy,
         tables.rule,
         start_low,
@@ -66,9 +67,10 @@ pub fn write_plan(plan: &Plan, out: &mut [u8]) -> Result<usize, PlanFault>
     ensures buffer { λ _. ⌜ now (out .exit) ≡ left (encode (parts (now (plan .entry)))) (now (out .entry)) ⌝ }
     ensures reads_back { λ r. ⌜ accepted r (λ size. decode (now (out .exit)) ≡ Ok (parts (now (plan .entry)), drop size (now (out .entry)))) ⌝ }
 {
-    let levels_at = 14 + plan.tasks() as usize;
-    let wakes_at = levels_at + plan.lines() as usize;
-    let size = wakes_at + 2 * plan.events() as usize;
+    let counts = plan.counts();
+    let levels_at = 14 + counts.tasks as usize;
+    let wakes_at = levels_at + counts.lines as usize;
+    let size = wakes_at + 2 * counts.events as usize;
     if out.len() < size {
         return Err(PlanFault::Buffer(out.len()));
     }

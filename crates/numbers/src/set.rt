@@ -1,5 +1,5 @@
 // A set of tasks, of lines or of events: a number of two bytes, with bit n for number n.
-ghost use mathlib.Core.Bool.{true, false, _&&_};
+ghost use mathlib.Core.Bool.{true, false};
 ghost use mathlib.Core.Path.{_≡_};
 ghost use Prim.Native.Nat.{ℕ, _^_};
 ghost use lib.Dec.{eqb, ltb};
@@ -11,6 +11,22 @@ use std::marker::PhantomData;
 pub struct Set<N> {
     bits: u16,
     kind: PhantomData<N>,
+}
+
+// Whether bit n is 1.
+fn has_bit(bits: u16, n: u8) -> bool
+    ensures { λ r. ⌜ r ≡ has bits n ⌝ }
+{
+    n < 16 && bits >> n & 1 == 1
+}
+
+// Whether every bit from n on is 0.
+fn none_from(bits: u16, n: u8) -> bool
+    ensures is { λ r. ⌜ r ≡ ltb bits (2 ^ n) ⌝ }
+    ensures yes { λ r. ⌜ (r ≡ true → All-below n bits) ⌝ }
+    ensures no { λ r. ⌜ (r ≡ false → All-below n bits → ⊥) ⌝ }
+{
+    if n < 16 { bits >> n == 0 } else { true }
 }
 
 impl<N> Set<N> {
@@ -38,8 +54,7 @@ impl<N> Set<N> {
 
     // The members that both sets have.
     pub fn intersection(self, other: Set<N>) -> Set<N>
-        ensures is { λ r. ⌜ r .bits ≡ both (self .bits) (other .bits) ⌝ }
-        ensures members { λ r. ⌜ ((n : ℕ) → has (r .bits) n ≡ (has (self .bits) n && has (other .bits) n)) ⌝ }
+        ensures { λ r. ⌜ r .bits ≡ both (self .bits) (other .bits) ⌝ }
     {
         Set::from_bits(self.bits & other.bits)
     }
@@ -50,11 +65,7 @@ impl<N> Set<N> {
         ensures yes { λ r. ⌜ (r ≡ true → All-below count (self .bits)) ⌝ }
         ensures no { λ r. ⌜ (r ≡ false → All-below count (self .bits) → ⊥) ⌝ }
     {
-        if count < 16 {
-            self.bits >> count == 0
-        } else {
-            true
-        }
+        none_from(self.bits, count)
     }
 }
 
@@ -62,8 +73,7 @@ impl<N: Numbered> Set<N> {
     pub fn contains(self, member: N) -> bool
         ensures { λ r. ⌜ r ≡ has (self .bits) (N·Numbered .number member) ⌝ }
     {
-        let n = member.number();
-        n < 16 && self.bits >> n & 1 == 1
+        has_bit(self.bits, member.number())
     }
 
     // The set with one more member. A number above 15 adds none.

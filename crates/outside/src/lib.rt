@@ -52,7 +52,7 @@ pub impl NestingRule for ByParity as ByParityRule {
 }
 
 // What two favoured groups over any policy choose.
-pub fn chosen_in_layers<P: Policy>(
+fn chosen_in_layers<P: Policy>(
     layers: &Favoured<Favoured<P>>,
     ready: Set<TaskNo>,
     current: TaskNo,
@@ -63,7 +63,7 @@ pub fn chosen_in_layers<P: Policy>(
 }
 
 // The figure of a plan under any rule.
-pub fn figure_under<R: NestingRule>(plan: &Plan, rule: &R) -> u8
+fn figure_under<R: NestingRule>(plan: &Plan, rule: &R) -> u8
     ensures { λ r. ⌜ r ≡ figure-of (R·NestingRule .ranked (now (rule .entry))) (length (parts (now (plan .entry)) .levels)) ⌝ }
 {
     figure(plan, rule)

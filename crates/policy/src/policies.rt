@@ -6,9 +6,9 @@ ghost use Rattle.std.specs.declared.option.Option.the-variants.{Some};
 ghost use Rattle.numbers.specs.declared.number.TaskNo.{TaskNo};
 ghost use Rattle.policy.specs.Policies.{None-exactly-when-empty, Only-from, Exactly, Stays-or-nearest, stay as staying, Favours, favour};
 ghost use Rattle.policy.specs.Priorities.{Highest-then-lowest, by-priority, Stays-or-nearest-of-highest, share};
+use crate::nearest::nearest;
 use crate::priorities::Priorities;
 use numbers::number::TaskNo;
-use numbers::number::TaskNoNumbered;
 use numbers::set::Set;
 use numbers::set::SetClone;
 
@@ -27,20 +27,6 @@ pub trait Policy {
         ensures { λ r. ⌜ r ≡ chosen (now (self .entry)) (ready .bits) current ⌝ };
 }
 
-// The first task of the set from a task on, going up and from 15 to 0.
-fn first_from(set: Set<TaskNo>, from: TaskNo) -> Option<TaskNo>
-    ensures { λ r. ⌜ r ≡ staying (set .bits) from ⌝ }
-{
-    let mut at = if from.0 < 16 { from.0 } else { 15 };
-    for _i in 0..16u8 {
-        if set.contains(TaskNo(at)) {
-            return Some(TaskNo(at));
-        }
-        at = (at + 1) % 16;
-    }
-    None
-}
-
 // The current task if it is ready, otherwise the next one that is.
 #[derive(Clone, Copy)]
 pub struct Stay;
@@ -52,7 +38,7 @@ pub impl Policy for Stay as StayPolicy {
         ensures is { λ r. ⌜ r ≡ staying (ready .bits) current ⌝ }
         ensures exactly { λ r. ⌜ Exactly (Stays-or-nearest (ready .bits) current) r ⌝ }
     {
-        first_from(ready, current)
+        nearest(ready, current)
     }
 }
 
@@ -70,7 +56,7 @@ pub impl Policy for Priority as PriorityPolicy {
         ensures exactly { λ r. ⌜ Exactly (Highest-then-lowest (now (self .entry) .priorities .of) (ready .bits)) r ⌝ }
     {
         let _ = current;
-        first_from(self.priorities.leaders(ready), TaskNo(0))
+        self.priorities.foremost(ready)
     }
 }
 
@@ -87,7 +73,25 @@ pub impl Policy for Shared as SharedPolicy {
         ensures is { λ r. ⌜ r ≡ share (now (self .entry) .priorities .of) (ready .bits) current ⌝ }
         ensures exactly { λ r. ⌜ Exactly (Stays-or-nearest-of-highest (now (self .entry) .priorities .of) (ready .bits) current) r ⌝ }
     {
-        first_from(self.priorities.leaders(ready), current)
+        self.priorities.nearest_of_highest(ready, current)
+    }
+}
+
+// Asks a policy about the ready tasks of the group if there are any, otherwise about all ready tasks.
+fn ask_below<P: Policy>(
+    below: &P,
+    group: Set<TaskNo>,
+    ready: Set<TaskNo>,
+    current: TaskNo,
+) -> Option<TaskNo>
+    ensures is { λ r. ⌜ r ≡ favour (P·Policy .chosen (now (below .entry))) (group .bits) (ready .bits) current ⌝ }
+    ensures exactly { λ r. ⌜ Exactly (Favours (P·Policy .chosen (now (below .entry))) (group .bits) (ready .bits) current) r ⌝ }
+{
+    let favoured = ready.intersection(group);
+    if favoured.is_empty() {
+        below.choose(ready, current)
+    } else {
+        below.choose(favoured, current)
     }
 }
 
@@ -105,11 +109,6 @@ pub impl<P: Policy> Policy for Favoured<P> as FavouredPolicy {
         ensures is { λ r. ⌜ r ≡ favour (P·Policy .chosen (now (self .entry) .below)) (now (self .entry) .group .bits) (ready .bits) current ⌝ }
         ensures exactly { λ r. ⌜ Exactly (Favours (P·Policy .chosen (now (self .entry) .below)) (now (self .entry) .group .bits) (ready .bits) current) r ⌝ }
     {
-        let favoured = ready.intersection(self.group);
-        if favoured.is_empty() {
-            self.below.choose(ready, current)
-        } else {
-            self.below.choose(favoured, current)
-        }
+        ask_below(&self.below, self.group, ready, current)
     }
 }

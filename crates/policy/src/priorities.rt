@@ -2,7 +2,9 @@
 ghost use mathlib.Core.Path.{_≡_};
 ghost use Prim.Native.Nat.{ℕ, _<_};
 ghost use Rattle.numbers.specs.Sets.{gathered};
-ghost use Rattle.policy.specs.Priorities.{highest-priority, leaders as leading, member-of-priority, priority-of};
+ghost use Rattle.policy.specs.Policies.{Exactly};
+ghost use Rattle.policy.specs.Priorities.{Highest-then-lowest, Stays-or-nearest-of-highest, by-priority, highest-priority, leaders as leading, member-of-priority, priority-of, share};
+use crate::nearest::nearest;
 use numbers::number::TaskNo;
 use numbers::number::TaskNoNumbered;
 use numbers::set::Set;
@@ -44,7 +46,7 @@ impl Priorities {
     }
 
     // The tasks of the set with its highest priority.
-    pub(crate) fn leaders(&self, set: Set<TaskNo>) -> Set<TaskNo>
+    fn leaders(&self, set: Set<TaskNo>) -> Set<TaskNo>
         ensures { λ r. ⌜ r .bits ≡ leading (now (self .entry) .of) (set .bits) ⌝ }
     {
         let high = self.highest(set);
@@ -56,5 +58,21 @@ impl Priorities {
             }
         }
         found
+    }
+
+    // The task of the set with the highest priority, and among equals with the lowest number.
+    pub(crate) fn foremost(&self, set: Set<TaskNo>) -> Option<TaskNo>
+        ensures is { λ r. ⌜ r ≡ by-priority (now (self .entry) .of) (set .bits) ⌝ }
+        ensures exactly { λ r. ⌜ Exactly (Highest-then-lowest (now (self .entry) .of) (set .bits)) r ⌝ }
+    {
+        nearest(self.leaders(set), TaskNo(0))
+    }
+
+    // The nearest task, from a task on, of those with the highest priority.
+    pub(crate) fn nearest_of_highest(&self, set: Set<TaskNo>, from: TaskNo) -> Option<TaskNo>
+        ensures is { λ r. ⌜ r ≡ share (now (self .entry) .of) (set .bits) from ⌝ }
+        ensures exactly { λ r. ⌜ Exactly (Stays-or-nearest-of-highest (now (self .entry) .of) (set .bits) from) r ⌝ }
+    {
+        nearest(self.leaders(set), from)
     }
 }

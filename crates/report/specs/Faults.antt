@@ -3,25 +3,21 @@ use mathlib.Core.List.{List, _++_}
 use Prim.Native.Nat.{ℕ}
 use lib.Chars.{codes}
 use Rattle.std.specs.Written.{decimal}
-use Rattle.formats.specs.Faults.{plan-layer, plan-number, plan-place}
+use Rattle.formats.specs.declared.fault.Refusal.{Refusal}
+use Rattle.formats.specs.Faults.{plan-refusal}
 use Rattle.report.specs.declared.fault.ProgramFault.{ProgramFault}
 use Rattle.report.specs.declared.fault.ProgramFault.the-variants.{TooLong, Plan}
 
-abbrev pub fault-number : ProgramFault → ℕ
-fault-number TooLong = 21
-fault-number (Plan lower) = plan-number lower
+-- a plan's fault keeps its own number, place and layer
+abbrev pub program-refusal : ProgramFault → Refusal
+program-refusal TooLong = record { number = 21; place = 65536; layer = 4 }
+program-refusal (Plan fault) = plan-refusal fault
 
-abbrev pub fault-place : ProgramFault → ℕ
-fault-place TooLong = 65536
-fault-place (Plan lower) = plan-place lower
-
-abbrev pub fault-layer : ProgramFault → ℕ
-fault-layer TooLong = 4
-fault-layer (Plan lower) = plan-layer lower
+abbrev line-of : Refusal → List ℕ
+line-of r =
+    codes "refused "
+    ++ (decimal (r .number) ++ (codes " " ++ (decimal (r .place) ++ (codes " " ++ decimal (r .layer)))))
 
 -- refused NUMBER PLACE LAYER
 abbrev pub refusal-line : ProgramFault → List ℕ
-refusal-line fault =
-    codes "refused "
-    ++ (decimal (fault-number fault)
-    ++ (codes " " ++ (decimal (fault-place fault) ++ (codes " " ++ decimal (fault-layer fault)))))
+refusal-line fault = line-of (program-refusal fault)

@@ -1,18 +1,16 @@
 // Why a program refuses its input.
 ghost use mathlib.Core.Path.{_≡_};
-ghost use Rattle.std.specs.declared.option.Option.the-variants.{Some};
 ghost use Rattle.std.specs.Of.String.{string-bytes};
 ghost use Rattle.std.specs.Vec.{made};
 ghost use Rattle.report.specs.declared.fault.ProgramFault.the-variants.{Plan};
-ghost use Rattle.report.specs.Faults.{fault-layer, fault-number, fault-place, refusal-line};
+ghost use Rattle.report.specs.Faults.{program-refusal, refusal-line};
 use formats::fault::PlanFault;
 use formats::fault::PlanFaultDebug;
-use formats::fault::PlanFaultPartialEq;
+use formats::fault::Refusal;
 use std::alloc::AllocError;
 use std::alloc::Global;
-use std::fmt;
 
-#[derive(Clone, Copy, PartialEq, Eq, Debug)]
+#[derive(Clone, Copy, Debug)]
 pub enum ProgramFault {
     // more input than a program takes
     TooLong,
@@ -23,36 +21,22 @@ pub enum ProgramFault {
 pub impl From<PlanFault> for ProgramFault as ProgramFaultFromPlan {
     ghost converts = { λ lower fault. fault ≡ Plan lower };
 
-    fn from(fault: PlanFault) -> ProgramFault {
-        ProgramFault::Plan(fault)
+    fn from(lower: PlanFault) -> ProgramFault {
+        ProgramFault::Plan(lower)
     }
 }
 
 impl ProgramFault {
-    pub fn number(&self) -> u8
-        ensures { λ r. ⌜ r ≡ fault-number (now (self .entry)) ⌝ }
+    pub fn refusal(&self) -> Refusal
+        ensures { λ r. ⌜ r ≡ program-refusal (now (self .entry)) ⌝ }
     {
         match self {
-            ProgramFault::TooLong => 21,
-            ProgramFault::Plan(lower) => lower.number(),
-        }
-    }
-
-    pub fn place(&self) -> usize
-        ensures { λ r. ⌜ r ≡ fault-place (now (self .entry)) ⌝ }
-    {
-        match self {
-            ProgramFault::TooLong => 65_536,
-            ProgramFault::Plan(lower) => lower.place(),
-        }
-    }
-
-    pub fn layer(&self) -> u8
-        ensures { λ r. ⌜ r ≡ fault-layer (now (self .entry)) ⌝ }
-    {
-        match self {
-            ProgramFault::TooLong => 4,
-            ProgramFault::Plan(lower) => lower.layer(),
+            ProgramFault::TooLong => Refusal {
+                number: 21,
+                place: 65_536,
+                layer: 4,
+            },
+            ProgramFault::Plan(fault) => fault.refusal(),
         }
     }
 
@@ -60,9 +44,11 @@ impl ProgramFault {
     pub fn line(&self, heap: Global) -> Result<String, AllocError>
         ensures { λ r. ⌜ made r (λ text. string-bytes text ≡ refusal-line (now (self .entry))) ⌝ }
     {
-        let number = self.number();
-        let place = self.place();
-        let layer = self.layer();
+        let Refusal {
+            number,
+            place,
+            layer,
+        } = self.refusal();
         format!(heap, "refused {number} {place} {layer}")
     }
 }

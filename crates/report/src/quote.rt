@@ -42,11 +42,12 @@ pub fn quote_plan(bytes: &[u8]) -> Result<Quote, ProgramFault>
     let mut rest = bytes;
     let plan = read_plan(&mut rest)?;
     let nesting = plan.nesting();
+    let counts = plan.counts();
     let tables = plan.tables();
     Ok(Quote {
-        tasks: plan.tasks(),
-        lines: plan.lines(),
-        events: plan.events(),
+        tasks: counts.tasks,
+        lines: counts.lines,
+        events: counts.events,
         policy: tables.policy,
         rule: tables.rule,
         ranks: ranks(&plan, &nesting),

@@ -20,7 +20,7 @@ returns-then-out-size c =
     let p = parts (c .args .plan .now) in
     let o = c .args .out .now in
     let short : length o < size (length (p .priorities)) (length (p .levels)) (length (p .wakes)) =
-    omega (arith, c .if-out-size .taken, c .tasks .ensures, c .lines .ensures, c .events .ensures) in
+    omega (arith, c .if-out-size .taken, c .counts-counts .ensures .tasks, c .counts-counts .ensures .lines, c .counts-counts .ensures .events) in
     let h = too-short p o short in
     record { answer = h .answer; buffer = h .buffer; reads-back = tt }
 
@@ -32,12 +32,12 @@ returns c =
     let v2 = c .put-2 .last .out in
     let v3 = c .put-3 .last .out in
     let v4 = c .put-sets .last .out in
-    let same = c .tables-tables .ensures .is in
-    let t : c .tasks .result ≡ length (p .priorities) = c .tasks .ensures in
-    let l : c .lines .result ≡ length (p .levels) = c .lines .ensures in
-    let n : c .events .result ≡ length (p .wakes) = c .events .ensures in
-    let at : 14 + c .tasks .result + c .lines .result ≡ 14 + length (p .priorities) + length (p .levels) = omega arith in
-    let whole : 14 + c .tasks .result + c .lines .result + 2 * c .events .result ≡ size (length (p .priorities)) (length (p .levels)) (length (p .wakes)) =
+    let same = c .tables-tables .ensures in
+    let t : c .counts-counts .result .tasks ≡ length (p .priorities) = c .counts-counts .ensures .tasks in
+    let l : c .counts-counts .result .lines ≡ length (p .levels) = c .counts-counts .ensures .lines in
+    let n : c .counts-counts .result .events ≡ length (p .wakes) = c .counts-counts .ensures .events in
+    let at : 14 + c .counts-counts .result .tasks + c .counts-counts .result .lines ≡ 14 + length (p .priorities) + length (p .levels) = omega arith in
+    let whole : 14 + c .counts-counts .result .tasks + c .counts-counts .result .lines + 2 * c .counts-counts .result .events ≡ size (length (p .priorities)) (length (p .levels)) (length (p .wakes)) =
     omega arith in
     let fits : size (length (p .priorities)) (length (p .levels)) (length (p .wakes)) ≤ length o =
     omega (arith, c .if-out-size .left) in
@@ -45,10 +45,10 @@ returns c =
     written p o v1 v2 v3 v4 fits (c .put .ensures ∙ ap (placed o 0) (c .head-of .ensures))
     (c .put-2 .ensures ∙ ap (λ (q : Parts). placed v1 14 (q .priorities)) same)
     (c .put-3 .ensures
-    ∙ (ap (λ (q : Parts). placed v2 (14 + c .tasks .result) (q .levels)) same
+    ∙ (ap (λ (q : Parts). placed v2 (14 + c .counts-counts .result .tasks) (q .levels)) same
     ∙ ap (λ k. placed v2 (14 + k) (p .levels)) t))
     (c .put-sets .ensures
-    ∙ (ap (λ (q : Parts). placed v3 (14 + c .tasks .result + c .lines .result) (twos (q .wakes))) same
+    ∙ (ap (λ (q : Parts). placed v3 (14 + c .counts-counts .result .tasks + c .counts-counts .result .lines) (twos (q .wakes))) same
     ∙ ap (λ k. placed v3 k (twos (p .wakes))) at)) in
     record {
       answer = ap Ok whole ∙ h .answer;
@@ -62,6 +62,6 @@ pub put-sets-requires : need.put-sets-requires
 put-sets-requires c κs =
     let p = parts (c .args .plan .now) in
     let sets = c .tables-tables .result .wakes .now in
-    let same : map bits-of sets ≡ p .wakes = ap (λ (q : Parts). q .wakes) (c .tables-tables .ensures .is) in
+    let same : map bits-of sets ≡ p .wakes = ap (λ (q : Parts). q .wakes) (c .tables-tables .ensures) in
     let n : length sets ≡ length (p .wakes) = sym (length-map sets bits-of) ∙ ap length same in
-    omega (arith, c .if-out-size .left, c .events .ensures)
+    omega (arith, c .if-out-size .left, c .counts-counts .ensures .events)

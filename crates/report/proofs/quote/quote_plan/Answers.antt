@@ -1,6 +1,6 @@
 use mathlib.Core.Bool.{false}
 use mathlib.Core.List.{List}
-use mathlib.Core.Path.{_≡_, refl, sym, ap, fun-ext, _∙_}
+use mathlib.Core.Path.{_≡_, refl, sym, ap, _∙_}
 use Prim.Native.Nat.{ℕ}
 use native.Mathlib.Omega.{arith}
 use lib.Dec.{ltb}
@@ -13,6 +13,7 @@ use Rattle.board.specs.Figure.{different-ranks, figure-of}
 use Rattle.board.specs.Plans.{Parts}
 use Rattle.board.specs.Ranks.{plan-rank, rank-by}
 use Rattle.board.specs.Viewed.{parts}
+use Rattle.board.proofs.Ranking.{plan-ranked}
 use Rattle.formats.specs.declared.fault.PlanFault.{PlanFault}
 use Rattle.formats.specs.Decode.{decode}
 use Rattle.report.specs.declared.fault.ProgramFault.{ProgramFault}
@@ -47,10 +48,10 @@ returns c =
     let p = parts plan in
     let nesting = c .nesting-nesting .result in
     let short = le-ltb 65536 (length bs) (c .if-bytes-gt-LIMIT .left) in
-    let ranked : rank-by (nesting .rule) (nesting .levels .of) ≡ plan-rank p = fun-ext (c .nesting-nesting .ensures) in
-    let same = c .tables-tables .ensures .is in
+    let ranked : rank-by (nesting .rule) (nesting .levels .of) ≡ plan-rank p = plan-ranked p (nesting .rule) (nesting .levels .of) (c .nesting-nesting .ensures .rule) (c .nesting-nesting .ensures .levels) in
+    let same = c .tables-tables .ensures in
     ap Ok
-    (same-quote (length (c .read-plan .last .bytes .now)) (c .tasks .ensures) (c .lines .ensures) (c .events .ensures)
+    (same-quote (length (c .read-plan .last .bytes .now)) (c .counts-counts .ensures .tasks) (c .counts-counts .ensures .lines) (c .counts-counts .ensures .events)
     (ap (λ (q : Parts). q .policy) same) (ap (λ (q : Parts). q .rule) same)
     (c .ranks .ensures ∙ ap (λ rank. different-ranks rank (length (p .levels))) ranked)
     (c .figure .ensures .is ∙ ap (λ rank. figure-of rank (length (p .levels))) ranked))

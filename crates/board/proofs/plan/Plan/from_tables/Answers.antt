@@ -69,7 +69,45 @@ ghost-result c =
     bits-padded ws (c .padded-3 .result) (c .from-bits .result) (c .from-bits .ensures) (c .padded-3 .ensures) in
     let wakes : (e : ℕ) → getD (map bits-of (c .padded-3 .result)) e 0 < 2 ^ length ps =
     λ e. subst (λ v. v < 2 ^ length ps) (sym (ap (λ (v : List ℕ). getD v e 0) all ∙ getD-padded (map bits-of ws) _ e)) (s .2 e) in
-    (n .0, (n .1, (n .2, (n .3, (s .0, (s .1, (wakes, (padded-again 0 ps _ (c .padded .ensures), (padded-again 0 ls _ (c .padded-2 .ensures), (bits-again ws (c .padded-3 .result) (c .from-bits .result) (c .from-bits .ensures) (c .padded-3 .ensures), tt))))))))))
+    let ps-kept : take (length ps) (c .padded .result) ≡ ps = take-padded 0 ps _ (c .padded .ensures) in
+    let ls-kept : take (length ls) (c .padded-2 .result) ≡ ls = take-padded 0 ls _ (c .padded-2 .ensures) in
+    let ws-kept : take (length ws) (c .padded-3 .result) ≡ ws = take-padded _ ws _ (c .padded-3 .ensures) in (
+      n .0,
+      (
+        n .1,
+        (
+          n .2,
+          (
+            n .3,
+            (
+              s .0,
+              (
+                s .1,
+                (
+                  wakes,
+                  (
+                    ap length ps-kept,
+                    (
+                      ap length ls-kept,
+                      (
+                        ap (λ v. length (map bits-of v)) ws-kept ∙ length-map ws bits-of,
+                        (
+                          padded-again 0 ps _ (c .padded .ensures),
+                          (
+                            padded-again 0 ls _ (c .padded-2 .ensures),
+                            (bits-again ws (c .padded-3 .result) (c .from-bits .result) (c .from-bits .ensures) (c .padded-3 .ensures), tt),
+                          ),
+                        ),
+                      ),
+                    ),
+                  ),
+                ),
+              ),
+            ),
+          ),
+        ),
+      ),
+    )
 
 pub returns : need.returns
 returns c =
