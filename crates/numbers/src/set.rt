@@ -2,7 +2,7 @@
 ghost use mathlib.Core.Bool.{true, false};
 ghost use mathlib.Core.Path.{_≡_};
 ghost use Prim.Native.Nat.{ℕ, _^_};
-ghost use lib.Dec.{eqb, ltb};
+ghost use lib.Dec.{ltb};
 ghost use Rattle.numbers.specs.Sets.{has, both, with-member, All-below};
 use crate::number::Numbered;
 use std::marker::PhantomData;
@@ -44,12 +44,6 @@ impl<N> Set<N> {
     {
         let Set { bits, .. } = self;
         bits
-    }
-
-    pub fn is_empty(self) -> bool
-        ensures { λ r. ⌜ r ≡ eqb (self .bits) 0 ⌝ }
-    {
-        self.bits == 0
     }
 
     // The members that both sets have.

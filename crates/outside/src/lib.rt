@@ -74,7 +74,6 @@ mod tests {
     use super::*;
     use board::plan::Tables;
     use board::refusal::PlanRefusalDebug;
-    use numbers::number::TaskNoDebug;
     use numbers::number::TaskNoPartialEq;
     use std::test::*;
 
@@ -88,23 +87,11 @@ mod tests {
             },
         };
         let current = TaskNo(9);
-        check_eq(
-            chosen_in_layers(&layers, Set::from_bits(0b1111), current),
-            Some(TaskNo(0)),
-        )?;
-        check_eq(
-            chosen_in_layers(&layers, Set::from_bits(0b1110), current),
-            Some(TaskNo(2)),
-        )?;
-        check_eq(
-            chosen_in_layers(&layers, Set::from_bits(0b1000), current),
-            Some(TaskNo(3)),
-        )?;
-        check_eq(
-            chosen_in_layers(&layers, Set::from_bits(0x8008), current),
-            Some(TaskNo(15)),
-        )?;
-        check_eq(chosen_in_layers(&layers, Set::from_bits(0), current), None)
+        for (ready, task) in [(0b1111, 0), (0b1110, 2), (0b1000, 3), (0x8008, 15)] {
+            let chosen = chosen_in_layers(&layers, Set::from_bits(ready), current);
+            check(chosen == Some(TaskNo(task)))?;
+        }
+        check(chosen_in_layers(&layers, Set::from_bits(0), current).is_none())
     }
 
     // Lines 0, 1 and 2 have ranks 0, 7 and 0; no lines have none.

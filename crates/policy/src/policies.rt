@@ -88,7 +88,7 @@ fn ask_below<P: Policy>(
     ensures exactly { λ r. ⌜ Exactly (Favours (P·Policy .chosen (now (below .entry))) (group .bits) (ready .bits) current) r ⌝ }
 {
     let favoured = ready.intersection(group);
-    if favoured.is_empty() {
+    if favoured.bits() == 0 {
         below.choose(ready, current)
     } else {
         below.choose(favoured, current)
