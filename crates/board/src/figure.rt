@@ -43,13 +43,6 @@ fn figure_of<R: NestingRule>(lines: u8, rule: &R) -> u8
     1 + ranks_of(lines, rule)
 }
 
-// How many different ranks the plan's lines have.
-pub fn ranks<R: NestingRule>(plan: &Plan, rule: &R) -> u8
-    ensures { λ r. ⌜ r ≡ different-ranks (R·NestingRule .ranked (now (rule .entry))) (length (parts (now (plan .entry)) .levels)) ⌝ }
-{
-    ranks_of(plan.lines, rule)
-}
-
 // One more than the number of different ranks of the plan's lines.
 pub fn figure<R: NestingRule>(plan: &Plan, rule: &R) -> u8
     ensures is { λ r. ⌜ r ≡ figure-of (R·NestingRule .ranked (now (rule .entry))) (length (parts (now (plan .entry)) .levels)) ⌝ }

@@ -1,6 +1,6 @@
 // A plan from tables.
 ghost use mathlib.Core.Path.{_≡_};
-ghost use mathlib.Core.List.{map};
+ghost use mathlib.Core.List.{_++_, map};
 ghost use Prim.Native.Nat.{ℕ, _≤_};
 ghost use lib.ListN.{length};
 ghost use Rattle.board.specs.Refusing.{checked};
@@ -17,7 +17,7 @@ use numbers::set::Set;
 use numbers::set::SetClone;
 
 // The first count that is out of range is refused.
-pub fn check_counts(tasks: usize, lines: usize, events: usize) -> Result<(), PlanRefusal>
+fn check_counts(tasks: usize, lines: usize, events: usize) -> Result<(), PlanRefusal>
     ensures { λ r. ⌜ r ≡ checked (count-tests tasks lines events) ⌝ }
 {
     if tasks < 1 || tasks > 16 {
@@ -32,10 +32,17 @@ pub fn check_counts(tasks: usize, lines: usize, events: usize) -> Result<(), Pla
     Ok(())
 }
 
-// A number that names no policy or no nesting rule is refused.
-pub fn check_numbers(policy: u8, rule: u8) -> Result<(), PlanRefusal>
-    ensures { λ r. ⌜ r ≡ checked (number-tests policy rule) ⌝ }
+// Refuses the first count that is out of range, and then a number that names no policy or no nesting rule.
+pub fn check_numbers(
+    tasks: u8,
+    lines: u8,
+    events: u8,
+    policy: u8,
+    rule: u8,
+) -> Result<(), PlanRefusal>
+    ensures { λ r. ⌜ r ≡ checked (count-tests tasks lines events ++ number-tests policy rule) ⌝ }
 {
+    check_counts(tasks as usize, lines as usize, events as usize)?;
     PolicyKind::from_number(policy)?;
     RankRule::from_number(rule)?;
     Ok(())

@@ -1,9 +1,14 @@
 // The worked cases: one list is shown to follow from the rules, and a few are run through the calls.
 mod shown;
 
+use board::refusal::PlanRefusal;
+use formats::fault::PlanFault;
 use formats::fault::Refusal;
 use formats::read::read_plan;
+use numbers::number::EventNo;
+use report::fault::ProgramFault;
 use shown::worked_cases;
+use std::error::AnyError;
 use std::io;
 
 const BOARD: [u8; 19] = [
@@ -50,11 +55,31 @@ fn show(rt: &impl Print, tasks: u8, start: u8) -> io::Result<()> {
     println!(rt, "tasks {tasks} start {start} refused {number} {place}")
 }
 
-fn main(rt: LibcRuntime) -> io::Result<()> {
+// The lines by which programs tell faults.
+fn show_lines(rt: &LibcRuntime) -> Result<(), AnyError> {
+    let wake = PlanRefusal::WakeSet {
+        tasks: 2,
+        lines: 1,
+        event: EventNo(3),
+    };
+    for fault in [
+        ProgramFault::TooLong,
+        ProgramFault::Plan(PlanFault::Short(18)),
+        ProgramFault::Plan(PlanFault::Version),
+        ProgramFault::Plan(PlanFault::Refused(PlanRefusal::RuleNumber)),
+        ProgramFault::Plan(PlanFault::Refused(wake)),
+        ProgramFault::Plan(PlanFault::Buffer(7)),
+    ] {
+        rt.println(fault.line(rt.alloc())?)?;
+    }
+    Ok(())
+}
+
+fn main(rt: LibcRuntime) -> Result<(), AnyError> {
     let count = worked_cases();
     println!(rt, "worked cases {count}")?;
     for (tasks, start) in [(2, 1), (0, 1), (17, 1), (2, 4), (16, 255)] {
         show(&rt, tasks, start)?;
     }
-    Ok(())
+    show_lines(&rt)
 }

@@ -16,7 +16,7 @@ use Rattle.std.specs.declared.result.Result.the-variants.{Ok, Err}
 use Rattle.board.specs.declared.refusal.PlanRefusal.{PlanRefusal}
 use Rattle.board.specs.Plans.{Parts, count-tests, number-tests, set-tests, planned}
 use Rattle.board.specs.Refusing.{needs, or-else, first, unless, checked}
-use Rattle.board.proofs.Planning.{planned-by-sets}
+use Rattle.board.proofs.Planning.{or-else-none, planned-by-sets}
 use Rattle.board.proofs.Refusing.{first-append, all-passed, first-failed}
 use Rattle.formats.specs.declared.fault.PlanFault.{PlanFault}
 use Rattle.formats.specs.declared.fault.PlanFault.the-variants.{Short, Refused}
@@ -80,64 +80,71 @@ module _ (bs : List ℕ) where
   fault-in-head h = sym (ap answer (by-stages (first-failed (head-tests bs) h) refl refl refl refl))
 
   module _ {u : Unit {0}} (head : Ok u ≡ checked (head-tests bs)) where
-    pub fault-in-counts : {e : PlanRefusal} → Err e ≡ checked counts → Err (Refused e) ≡ decode bs
-    fault-in-counts h =
-        sym (ap answer (by-stages (all-passed (head-tests bs) head) (first-failed counts h) refl refl refl))
+    -- the counts and the numbers are tested together
+    both-tests : first (counts ++ numbers) ≡ or-else (first counts) (first numbers)
+    both-tests = first-append counts numbers
 
-    module _ {v : Unit {0}} (counted : Ok v ≡ checked counts) where
-      pub fault-in-numbers : {e : PlanRefusal} → Err e ≡ checked numbers → Err (Refused e) ≡ decode bs
-      fault-in-numbers h =
-          sym
-          (ap answer
-          (by-stages (all-passed (head-tests bs) head) (all-passed counts counted) (first-failed numbers h) refl refl))
+    by-both :
+        {l : Option PlanFault} {s : Option PlanRefusal} {f : Option PlanRefusal} → first (counts ++ numbers) ≡ f → long ≡ l → first sets ≡ s →
+        first (byte-tests bs) ≡ or-else (carried f) (or-else l (carried s))
+    by-both {l} {s} {f} e hl hs =
+        by-stages (all-passed (head-tests bs) head) refl refl hl hs
+        ∙ (regroup (first counts) (first numbers) (or-else l (carried s))
+        ∙ ap (λ x. or-else (carried x) (or-else l (carried s))) (sym both-tests ∙ e))
+      where
+        regroup : (a b : Option PlanRefusal) (c : Option PlanFault) → or-else (carried a) (or-else (carried b) c) ≡ or-else (carried (or-else a b)) c
+        regroup (Some x) b c = refl
+        regroup None b c = refl
 
-      module _ {w : Unit {0}} (numbered : Ok w ≡ checked numbers) where
-        pub fault-in-size : length bs < size-at bs → Err (Short (length bs)) ≡ decode bs
-        fault-in-size short =
-            sym
-            (ap answer
-            (by-stages (all-passed (head-tests bs) head) (all-passed counts counted) (all-passed numbers numbered)
-            (needs-no _ _ (lt-leb (size-at bs) (length bs) short)) refl))
+    pub fault-in-numbers : {e : PlanRefusal} → Err e ≡ checked (counts ++ numbers) → Err (Refused e) ≡ decode bs
+    fault-in-numbers h = sym (ap answer (by-both (first-failed (counts ++ numbers) h) refl refl))
 
-        module _ (whole : size-at bs ≤ length bs) where
-          -- the counts are the lengths of the parts
-          lengths :
-              count-tests (length (parts-at bs .priorities)) (length (parts-at bs .levels)) (length (parts-at bs .wakes)) ≡ counts
-          lengths =
-              let t = getD bs 5 0 in
-              let l = getD bs 6 0 in
-              let n = getD bs 7 0 in
-              let a : length (between 14 (14 + t) bs) ≡ t = length-between bs 14 (14 + t) (omega arith) ∙ omega arith in
-              let b : length (between (14 + t) (14 + t + l) bs) ≡ l =
-              length-between bs (14 + t) (14 + t + l) (omega arith) ∙ omega arith in
-              let d : length (between (14 + t + l) (size-at bs) bs) ≡ 2 * n =
-              length-between bs (14 + t + l) (size-at bs) (omega arith) ∙ omega arith in
-              let e : length (words (between (14 + t + l) (size-at bs) bs)) ≡ n = length-words _ n d in
-              ap (λ x. count-tests x (length (between (14 + t) (14 + t + l) bs)) (length (words (between (14 + t + l) (size-at bs) bs)))) a
-              ∙ (ap (λ x. count-tests t x (length (words (between (14 + t + l) (size-at bs) bs)))) b ∙ ap (λ x. count-tests t l x) e)
+    module _ {v : Unit {0}} (numbered : Ok v ≡ checked (counts ++ numbers)) where
+      pub fault-in-size : length bs < size-at bs → Err (Short (length bs)) ≡ decode bs
+      fault-in-size short =
+          sym (ap answer (by-both (all-passed (counts ++ numbers) numbered) (needs-no _ _ (lt-leb (size-at bs) (length bs) short)) refl))
 
-          left-to-sets : planned (parts-at bs) ≡ unless (first sets) (parts-at bs)
-          left-to-sets =
-              planned-by-sets (parts-at bs) (ap first lengths ∙ all-passed counts counted) (all-passed numbers numbered)
+      none-found : (first counts ≡ None) × (first numbers ≡ None)
+      none-found = or-else-none (first counts) (first numbers) (sym both-tests ∙ all-passed (counts ++ numbers) numbered)
 
-          decoded : {s : Option PlanRefusal} → first sets ≡ s → decode bs ≡ answer (carried s)
-          decoded h =
-              ap answer
-              (by-stages (all-passed (head-tests bs) head) (all-passed counts counted) (all-passed numbers numbered)
-              (needs-yes _ _ (le-leb (size-at bs) (length bs) whole)) h)
+      module _ (whole : size-at bs ≤ length bs) where
+        -- the counts are the lengths of the parts
+        lengths :
+            count-tests (length (parts-at bs .priorities)) (length (parts-at bs .levels)) (length (parts-at bs .wakes)) ≡ counts
+        lengths =
+            let t = getD bs 5 0 in
+            let l = getD bs 6 0 in
+            let n = getD bs 7 0 in
+            let a : length (between 14 (14 + t) bs) ≡ t = length-between bs 14 (14 + t) (omega arith) ∙ omega arith in
+            let b : length (between (14 + t) (14 + t + l) bs) ≡ l =
+            length-between bs (14 + t) (14 + t + l) (omega arith) ∙ omega arith in
+            let d : length (between (14 + t + l) (size-at bs) bs) ≡ 2 * n =
+            length-between bs (14 + t + l) (size-at bs) (omega arith) ∙ omega arith in
+            let e : length (words (between (14 + t + l) (size-at bs) bs)) ≡ n = length-words _ n d in
+            ap (λ x. count-tests x (length (between (14 + t) (14 + t + l) bs)) (length (words (between (14 + t + l) (size-at bs) bs)))) a
+            ∙ (ap (λ x. count-tests t x (length (words (between (14 + t + l) (size-at bs) bs)))) b ∙ ap (λ x. count-tests t l x) e)
 
-          refused-sets : {e : PlanRefusal} (found : Option PlanRefusal) → Err e ≡ unless found (parts-at bs) → found ≡ Some e
-          refused-sets {e} None h = let z : _≡_ {A = ℕ} 0 1 = cc in absurd (omega arith)
-          refused-sets {e} (Some x) h = cc
+        left-to-sets : planned (parts-at bs) ≡ unless (first sets) (parts-at bs)
+        left-to-sets =
+            planned-by-sets (parts-at bs) (ap first lengths ∙ none-found .0) (none-found .1)
 
-          passed-sets : {p : Parts} (found : Option PlanRefusal) → Ok p ≡ unless found (parts-at bs) → (found ≡ None) × (p ≡ parts-at bs)
-          passed-sets {p} None h = (refl, let e : p ≡ parts-at bs = cc in e)
-          passed-sets {p} (Some x) h = let z : _≡_ {A = ℕ} 0 1 = cc in absurd (omega arith)
+        decoded : {s : Option PlanRefusal} → first sets ≡ s → decode bs ≡ answer (carried s)
+        decoded h =
+            ap answer
+            (by-both (all-passed (counts ++ numbers) numbered) (needs-yes _ _ (le-leb (size-at bs) (length bs) whole)) h)
 
-          pub fault-in-sets : {e : PlanRefusal} → Err e ≡ planned (parts-at bs) → Err (Refused e) ≡ decode bs
-          fault-in-sets h = sym (decoded (refused-sets (first sets) (h ∙ left-to-sets)))
+        refused-sets : {e : PlanRefusal} (found : Option PlanRefusal) → Err e ≡ unless found (parts-at bs) → found ≡ Some e
+        refused-sets {e} None h = let z : _≡_ {A = ℕ} 0 1 = cc in absurd (omega arith)
+        refused-sets {e} (Some x) h = cc
 
-          pub read-whole : {p : Parts} → Ok p ≡ planned (parts-at bs) → Ok (p, drop (size-at bs) bs) ≡ decode bs
-          read-whole {p} h =
-              let q = passed-sets (first sets) (h ∙ left-to-sets) in
-              ap (λ x. Ok (x, drop (size-at bs) bs)) (q .1) ∙ sym (decoded (q .0))
+        passed-sets : {p : Parts} (found : Option PlanRefusal) → Ok p ≡ unless found (parts-at bs) → (found ≡ None) × (p ≡ parts-at bs)
+        passed-sets {p} None h = (refl, let e : p ≡ parts-at bs = cc in e)
+        passed-sets {p} (Some x) h = let z : _≡_ {A = ℕ} 0 1 = cc in absurd (omega arith)
+
+        pub fault-in-sets : {e : PlanRefusal} → Err e ≡ planned (parts-at bs) → Err (Refused e) ≡ decode bs
+        fault-in-sets h = sym (decoded (refused-sets (first sets) (h ∙ left-to-sets)))
+
+        pub read-whole : {p : Parts} → Ok p ≡ planned (parts-at bs) → Ok (p, drop (size-at bs) bs) ≡ decode bs
+        read-whole {p} h =
+            let q = passed-sets (first sets) (h ∙ left-to-sets) in
+            ap (λ x. Ok (x, drop (size-at bs) bs)) (q .1) ∙ sym (decoded (q .0))

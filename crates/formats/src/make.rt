@@ -11,12 +11,19 @@ use crate::fault::PlanFaultFromRefusal;
 use board::plan::Plan;
 use board::plan::Tables;
 
+fn make(tables: &Tables) -> Result<Plan, PlanFault>
+    ensures answer { λ r. ⌜ ((rest : List ℕ) → read-as r rest ≡ with-rest rest (planned (given (now (tables .entry))))) ⌝ }
+    ensures as_read { λ r. ⌜ (Two-byte-sets (given (now (tables .entry))) → (rest : List ℕ) → read-as r rest ≡ decode (encode (given (now (tables .entry))) ++ rest)) ⌝ }
+{
+    let plan = Plan::from_tables(tables)?;
+    Ok(plan)
+}
+
 // The plan of these tables. What is wrong with them is refused with the number and the place that
 // reading their bytes would give.
 pub fn plan_from_tables(tables: &Tables) -> Result<Plan, PlanFault>
     ensures answer { λ r. ⌜ ((rest : List ℕ) → read-as r rest ≡ with-rest rest (planned (given (now (tables .entry))))) ⌝ }
     ensures as_read { λ r. ⌜ (Two-byte-sets (given (now (tables .entry))) → (rest : List ℕ) → read-as r rest ≡ decode (encode (given (now (tables .entry))) ++ rest)) ⌝ }
 {
-    let plan = Plan::from_tables(tables)?;
-    Ok(plan)
+    make(tables)
 }

@@ -5,14 +5,13 @@ ghost use Prim.Native.Nat.{ℕ, _+_, _*_, _<_, _≤_};
 ghost use lib.ListN.{length, getD, take};
 ghost use Rattle.std.specs.Vec.{made as accepted, refused};
 ghost use Rattle.std.specs.declared.result.Result.the-variants.{Ok};
-ghost use Rattle.board.specs.Plans.{bits-of, count-tests, planned};
+ghost use Rattle.board.specs.Plans.{bits-of, count-tests, number-tests, planned};
 ghost use Rattle.board.specs.Refusing.{checked, Comes-first};
 ghost use Rattle.board.specs.Viewed.{made, parts};
 ghost use Rattle.formats.specs.Decode.{Begins-with-a-plan, Bytes, byte-tests, decode, head-tests, parts-at, read-as, size-at, sized};
 ghost use Rattle.formats.specs.Wire.{encode, word, words};
 use crate::fault::PlanFault;
 use crate::fault::PlanFaultFromRefusal;
-use board::making::check_counts;
 use board::making::check_numbers;
 use board::plan::Plan;
 use board::plan::Tables;
@@ -58,7 +57,7 @@ fn sets_in(bytes: &[u8], count: usize) -> [Set<TaskNo>; 16]
 
 // The plan whose parts stand in the bytes.
 fn plan_at(bytes: &[u8]) -> Result<Plan, PlanRefusal>
-    requires counted { ⌜ Ok tt ≡ checked (count-tests (getD (now bytes) 5 0) (getD (now bytes) 6 0) (getD (now bytes) 7 0)) ⌝ }
+    requires numbered { ⌜ Ok tt ≡ checked (count-tests (getD (now bytes) 5 0) (getD (now bytes) 6 0) (getD (now bytes) 7 0) ++ number-tests (getD (now bytes) 8 0) (getD (now bytes) 9 0)) ⌝ }
     requires whole { ⌜ size-at (now bytes) ≤ length (now bytes) ⌝ }
     ensures { λ r. ⌜ made r ≡ planned (parts-at (now (bytes .entry))) ⌝ }
 {
@@ -86,8 +85,7 @@ fn parse(bytes: &[u8]) -> Result<(Plan, usize), PlanFault>
     ensures bytes { λ _. ⌜ Bytes (now (bytes .entry)) ⌝ }
 {
     check_head(bytes)?;
-    check_counts(bytes[5] as usize, bytes[6] as usize, bytes[7] as usize)?;
-    check_numbers(bytes[8], bytes[9])?;
+    check_numbers(bytes[5], bytes[6], bytes[7], bytes[8], bytes[9])?;
     let size = 14 + bytes[5] as usize + bytes[6] as usize + 2 * bytes[7] as usize;
     if bytes.len() < size {
         return Err(PlanFault::Short(bytes.len()));

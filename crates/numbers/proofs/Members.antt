@@ -1,5 +1,5 @@
 -- The members of a set of bits.
-use mathlib.Core.Bool.{Bool, true, false, _&&_, _||_}
+use mathlib.Core.Bool.{Bool, true, false, not, _&&_, _||_}
 use mathlib.Core.Path.{_≡_, refl, sym, ap, _∙_}
 use mathlib.Core.Logic.{_⊎_, inl, inr, ⊎-elim}
 use Prim.Native.Nat.{ℕ, zero, suc, _+_, _*_, _-_, _/_, _%_, _^_, _<_, _≤_}
@@ -7,11 +7,11 @@ use native.Mathlib.Nat.{mod-one, div-eq-of-lt, pow-le-pow-right, mod-eq-of-lt}
 use native.Mathlib.Numerals.{one-add}
 use native.Mathlib.Omega.{arith}
 use lib.Dec.{eqb, ltb}
-use lib.Bits.{bitAnd, bitOr}
+use lib.Bits.{bitAnd, bitOr, bitXor, and-self, xor-lt, xor-self}
 use lib.Pow.{pow-pos}
-use Rattle.std.proofs.shelf.Bits.{le-div, shr-shr, shr-le, mod-pow-add, and-shr, and-mod, or-shr, or-mod, shl-shr, pow-add}
-use Rattle.std.proofs.shelf.Tests.{eqb-true, eqb-false, eq-eqb, ne-eqb, lt-ltb, ltb-true, le-ltb, cases-lt, cases-bool, true≢false}
-use Rattle.numbers.specs.Sets.{has, All-below}
+use Rattle.std.proofs.shelf.Bits.{and-le-l, le-div, pow-below, xor-shr, xor-mod, shr-shr, shr-le, mod-pow-add, and-shr, and-mod, or-shr, or-mod, shl-shr, pow-add}
+use Rattle.std.proofs.shelf.Tests.{eqb-true, eqb-false, eq-eqb, ne-eqb, cond-true, lt-ltb, ltb-true, le-ltb, cases-lt, cases-bool, true≢false}
+use Rattle.numbers.specs.Sets.{has, All-below, minus, with-member}
 
 -- a set below 2 ^ n has no member from n on
 pub none-from : (s n i : ℕ) → s < 2 ^ n → n ≤ i → has s i ≡ false
@@ -157,3 +157,48 @@ within-members s k r small is =
       yes = λ h n m. member-small s k n (ltb-true s (2 ^ k) (sym is ∙ h)) m;
       no = λ h below. true≢false (sym (lt-ltb s (2 ^ k) (below-all s k small below)) ∙ (sym is ∙ h));
     }
+
+-- one number alone
+pub has-power : (n i : ℕ) → has (2 ^ n) i ≡ eqb i n
+has-power n i =
+    ⊎-elim
+    (λ (below : i < n). has-single-below n i below ∙ sym (ne-eqb i n (λ e. omega arith)))
+    (λ (le : n ≤ i).
+    ⊎-elim
+    (λ (above : n < i).
+    let small : 2 ^ n < 2 ^ (n + 1) = pow-below n (n + 1) (omega arith) in
+    none-from (2 ^ n) (n + 1) i small (omega arith) ∙ sym (ne-eqb i n (λ e. omega arith)))
+    (λ (ge : i ≤ n). let e : i ≡ n = omega arith in ap (has (2 ^ n)) e ∙ (has-single n ∙ sym (eq-eqb i n e)))
+    (cases-lt n i))
+    (cases-lt i n)
+
+pub has-with-member : (s n i : ℕ) → n < 16 → has (with-member s n) i ≡ (has s i || eqb i n)
+has-with-member s n i low =
+    ap (λ v. has v i) (cond-true _ (bitOr s (2 ^ n)) s (lt-ltb n 16 low))
+    ∙ (has-either s (2 ^ n) i ∙ ap (λ b. has s i || b) (has-power n i))
+
+less-bit : (x y : ℕ) → x < 2 → y < 2 → eqb (bitXor x (bitAnd x y)) 1 ≡ (eqb x 1 && not (eqb y 1))
+less-bit zero zero l m = refl
+less-bit zero (suc zero) l m = refl
+less-bit (suc zero) zero l m = refl
+less-bit (suc zero) (suc zero) l m = refl
+less-bit zero (suc (suc y)) l m = absurd (omega arith)
+less-bit (suc (suc x)) y l m = absurd (omega arith)
+less-bit (suc zero) (suc (suc y)) l m = absurd (omega arith)
+
+pub has-minus : (a b i : ℕ) → has (minus a b) i ≡ (has a i && not (has b i))
+unfolding has
+has-minus a b i =
+    let x = a / 2 ^ i in
+    let y = b / 2 ^ i in
+    let shifted : bitXor a (bitAnd a b) / 2 ^ i ≡ bitXor x (bitAnd x y) =
+    xor-shr a (bitAnd a b) i ∙ ap (bitXor x) (and-shr a b i) in
+    let parts : bitXor a (bitAnd a b) / 2 ^ i % 2 ≡ bitXor (x % 2) (bitAnd (x % 2) (y % 2)) =
+    ap (λ n. n % 2) shifted ∙ (xor-mod x (bitAnd x y) 1 ∙ ap (bitXor (x % 2)) (and-mod x y 1)) in
+    ap (λ n. eqb n 1) parts ∙ less-bit (x % 2) (y % 2) (omega arith) (omega arith)
+
+pub minus-self : (a : ℕ) → minus a a ≡ 0
+minus-self a = ap (bitXor a) (and-self a) ∙ xor-self a
+
+pub minus-small : (n a b : ℕ) → a < 2 ^ n → minus a b < 2 ^ n
+minus-small n a b small = xor-lt n a (bitAnd a b) small (omega (arith, and-le-l a b))

@@ -3,7 +3,7 @@ use mathlib.Core.Bool.{Bool, true, cond}
 use mathlib.Core.Path.{_≡_}
 use Prim.Native.Nat.{ℕ, zero, suc, _/_, _%_, _^_, _<_}
 use lib.Dec.{eqb, ltb}
-use lib.Bits.{bitAnd, bitOr}
+use lib.Bits.{bitAnd, bitOr, bitXor}
 
 -- whether n is a member
 unfoldable pub has : ℕ → ℕ → Bool
@@ -16,6 +16,10 @@ All-below n s = (m : ℕ) → has s m ≡ true → m < n
 -- the members of both sets
 abbrev pub both : ℕ → ℕ → ℕ
 both a b = bitAnd a b
+
+-- the members of a that b lacks
+abbrev pub minus : ℕ → ℕ → ℕ
+minus a b = bitXor a (bitAnd a b)
 
 -- the set with n as a member; a number above 15 is never one
 abbrev pub with-member : ℕ → ℕ → ℕ

@@ -29,14 +29,20 @@ pub impl Policy for HighestNumber as HighestNumberPolicy {
 
     fn choose(&self, ready: Set<TaskNo>, current: TaskNo) -> Option<TaskNo> {
         let _ = current;
-        let mut best = None;
-        for t in 0..16u8 {
-            if ready.contains(TaskNo(t)) {
-                best = Some(TaskNo(t));
-            }
-        }
-        best
+        highest_of(ready)
     }
+}
+
+fn highest_of(set: Set<TaskNo>) -> Option<TaskNo>
+    ensures { λ r. ⌜ r ≡ highest 16 (set .bits) ⌝ }
+{
+    let mut best = None;
+    for t in 0..16u8 {
+        if set.contains(TaskNo(t)) {
+            best = Some(TaskNo(t));
+        }
+    }
+    best
 }
 
 // Even lines are urgent, odd ones are not.

@@ -7,7 +7,6 @@ ghost use Rattle.report.specs.Quotes.{board-text, memory-text, quote-text, quo
 use crate::fault::ProgramFault;
 use crate::fault::ProgramFaultFromPlan;
 use board::figure::figure;
-use board::figure::ranks;
 use board::nesting::LevelNestingRule;
 use formats::read::read_plan;
 use std::alloc::AllocError;
@@ -32,8 +31,7 @@ pub struct Quote {
 // The longest input that a program takes.
 pub const LIMIT: usize = 65_536;
 
-// The quote for the plan that begins the bytes.
-pub fn quote_plan(bytes: &[u8]) -> Result<Quote, ProgramFault>
+fn quote_input(bytes: &[u8]) -> Result<Quote, ProgramFault>
     ensures { λ r. ⌜ r ≡ quoted (now (bytes .entry)) ⌝ }
 {
     if bytes.len() > LIMIT {
@@ -44,16 +42,24 @@ pub fn quote_plan(bytes: &[u8]) -> Result<Quote, ProgramFault>
     let nesting = plan.nesting();
     let counts = plan.counts();
     let tables = plan.tables();
+    let suspended = figure(&plan, &nesting);
     Ok(Quote {
         tasks: counts.tasks,
         lines: counts.lines,
         events: counts.events,
         policy: tables.policy,
         rule: tables.rule,
-        ranks: ranks(&plan, &nesting),
-        suspended: figure(&plan, &nesting),
+        ranks: suspended - 1,
+        suspended,
         rest: rest.len(),
     })
+}
+
+// The quote for the plan that begins the bytes.
+pub fn quote_plan(bytes: &[u8]) -> Result<Quote, ProgramFault>
+    ensures { λ r. ⌜ r ≡ quoted (now (bytes .entry)) ⌝ }
+{
+    quote_input(bytes)
 }
 
 impl Quote {

@@ -9,7 +9,7 @@ use Rattle.board.specs.declared.plan.Plan.{Plan}
 use Rattle.board.specs.Plans.{Parts}
 use Rattle.formats.specs.declared.fault.PlanFault.{PlanFault}
 use Rattle.formats.specs.Decode.{sized}
-use Rattle.formats.proofs.Stages.{fault-in-head, fault-in-counts, fault-in-numbers, fault-in-sets, read-whole}
+use Rattle.formats.proofs.Stages.{fault-in-head, fault-in-numbers, fault-in-sets, read-whole}
 use Rattle.formats.proofs.read.parse.Needs as need
 
 refused :
@@ -27,19 +27,6 @@ returns-in-Break-check-head c =
       bytes = search needs;
     }
 
-pub returns-in-Break-check-counts : need.returns-in-Break-check-counts
-returns-in-Break-check-counts c =
-    let r = c .from-residual-in-Break-check-counts in
-    let q = err-from-errBy (r .result) (r .ensures .1) in
-    let bs = c .args .bytes .now in
-    record {
-      answer =
-          refused bs (q .1) (q .2)
-          (fault-in-counts bs (c .in-Continue-check-head .ensures tt) (c .in-Break-check-counts .ensures tt));
-      size = made-from-err (r .result) _ (r .ensures .0);
-      bytes = search needs;
-    }
-
 pub returns-in-Break-check-numbers : need.returns-in-Break-check-numbers
 returns-in-Break-check-numbers c =
     let r = c .from-residual-in-Break-check-numbers in
@@ -48,7 +35,7 @@ returns-in-Break-check-numbers c =
     record {
       answer =
           refused bs (q .1) (q .2)
-          (fault-in-numbers bs (c .in-Continue-check-head .ensures tt) (c .in-Continue-check-counts .ensures tt)
+          (fault-in-numbers bs (c .in-Continue-check-head .ensures tt)
           (c .in-Break-check-numbers .ensures tt));
       size = made-from-err (r .result) _ (r .ensures .0);
       bytes = search needs;
@@ -62,7 +49,7 @@ returns-in-Break-plan c =
     record {
       answer =
           refused bs (q .1) (q .2)
-          (fault-in-sets bs (c .in-Continue-check-head .ensures tt) (c .in-Continue-check-counts .ensures tt)
+          (fault-in-sets bs (c .in-Continue-check-head .ensures tt)
           (c .in-Continue-check-numbers .ensures tt) (c .if-bytes-size .left) (c .in-Break-plan .ensures tt));
       size = made-from-err (r .result) _ (r .ensures .0);
       bytes = search needs;
@@ -73,8 +60,7 @@ returns c =
     let bs = c .args .bytes .now in
     record {
       answer =
-          read-whole bs (c .in-Continue-check-head .ensures tt) (c .in-Continue-check-counts .ensures tt)
-          (c .in-Continue-check-numbers .ensures tt) (c .if-bytes-size .left) (c .in-Continue-plan .ensures tt);
+          read-whole bs (c .in-Continue-check-head .ensures tt) (c .in-Continue-check-numbers .ensures tt) (c .if-bytes-size .left) (c .in-Continue-plan .ensures tt);
       size = c .if-bytes-size .left;
       bytes = search needs;
     }

@@ -12,7 +12,7 @@ use Rattle.formats.specs.declared.fault.PlanFault.{PlanFault}
 use Rattle.formats.specs.declared.fault.PlanFault.the-variants.{Refused}
 use Rattle.formats.specs.Decode.{Two-byte-sets, read-as, with-rest}
 use Rattle.formats.proofs.RoundTrip.{read-back}
-use Rattle.formats.proofs.make.plan_from_tables.Needs as need
+use Rattle.formats.proofs.make.make.Needs as need
 
 refused :
     {r : Result Plan PlanFault} {f : PlanFault} {e : PlanRefusal} {x : Result Parts PlanRefusal} → r ≡ Err f → f ≡ Refused e →

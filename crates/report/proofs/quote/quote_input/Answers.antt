@@ -1,7 +1,7 @@
 use mathlib.Core.Bool.{false}
 use mathlib.Core.List.{List}
 use mathlib.Core.Path.{_≡_, refl, sym, ap, _∙_}
-use Prim.Native.Nat.{ℕ}
+use Prim.Native.Nat.{ℕ, _-_}
 use native.Mathlib.Omega.{arith}
 use lib.Dec.{ltb}
 use lib.ListN.{length}
@@ -19,7 +19,7 @@ use Rattle.formats.specs.Decode.{decode}
 use Rattle.report.specs.declared.fault.ProgramFault.{ProgramFault}
 use Rattle.report.specs.declared.quote.Quote.{Quote}
 use Rattle.report.specs.Quotes.{of-reading, quote-of, quoted}
-use Rattle.report.proofs.quote.quote_plan.Needs as need
+use Rattle.report.proofs.quote.quote_input.Needs as need
 
 -- input that is not too long is quoted as it reads
 within : (bs : List ℕ) {x : Result (Parts × List ℕ) PlanFault} → ltb 65536 (length bs) ≡ false → x ≡ decode bs → of-reading x ≡ quoted bs
@@ -50,9 +50,11 @@ returns c =
     let short = le-ltb 65536 (length bs) (c .if-bytes-gt-LIMIT .left) in
     let ranked : rank-by (nesting .rule) (nesting .levels .of) ≡ plan-rank p = plan-ranked p (nesting .rule) (nesting .levels .of) (c .nesting-nesting .ensures .rule) (c .nesting-nesting .ensures .levels) in
     let same = c .tables-tables .ensures in
+    let figure : c .figure-suspended .result ≡ figure-of (plan-rank p) (length (p .levels)) =
+    c .figure-suspended .ensures .is ∙ ap (λ rank. figure-of rank (length (p .levels))) ranked in
+    let less : c .figure-suspended .result - 1 ≡ different-ranks (plan-rank p) (length (p .levels)) = ap (λ n. n - 1) figure ∙ omega arith in
     ap Ok
     (same-quote (length (c .read-plan .last .bytes .now)) (c .counts-counts .ensures .tasks) (c .counts-counts .ensures .lines) (c .counts-counts .ensures .events)
     (ap (λ (q : Parts). q .policy) same) (ap (λ (q : Parts). q .rule) same)
-    (c .ranks .ensures ∙ ap (λ rank. different-ranks rank (length (p .levels))) ranked)
-    (c .figure .ensures .is ∙ ap (λ rank. figure-of rank (length (p .levels))) ranked))
+    less figure)
     ∙ within bs short (c .in-Continue-plan .ensures tt .answer)
