@@ -10,6 +10,7 @@ use report::fault::ProgramFault;
 use shown::worked_cases;
 use std::error::AnyError;
 use std::io;
+use std::io::Write;
 
 const BOARD: [u8; 19] = [
     0x50,
@@ -70,7 +71,7 @@ fn show_lines(rt: &LibcRuntime) -> Result<(), AnyError> {
         ProgramFault::Plan(PlanFault::Refused(wake)),
         ProgramFault::Plan(PlanFault::Buffer(7)),
     ] {
-        rt.println(fault.line(rt.alloc())?)?;
+        rt.stdout().write_all(fault.line().as_bytes())?;
     }
     Ok(())
 }

@@ -2,27 +2,20 @@
 use report::fault::ProgramFault;
 use report::quote::LIMIT;
 use report::quote::quote_plan;
-use std::alloc::AllocError;
 use std::io;
 use std::io::Read;
+use std::io::Write;
 
 // Why the program ends with status 1.
 #[derive(Debug, Drop)]
 enum Stop {
     Io(io::Error),
-    Memory,
     Refused,
 }
 
 impl From<io::Error> for Stop as StopFromError {
     fn from(e: io::Error) -> Stop {
         Stop::Io(e)
-    }
-}
-
-impl From<AllocError> for Stop as StopFromAlloc {
-    fn from(_e: AllocError) -> Stop {
-        Stop::Memory
     }
 }
 
@@ -34,11 +27,11 @@ fn main(rt: LibcRuntime) -> Result<(), Stop> {
     rt.stdin().take(MOST).read_to_end(&mut input)?;
     match quote_plan(input.as_slice()) {
         Ok(quote) => {
-            rt.println(quote.text(rt.alloc())?)?;
+            rt.stdout().write_all(quote.text().as_bytes())?;
             Ok(())
         }
         Err(fault) => {
-            rt.println(fault.line(rt.alloc())?)?;
+            rt.stdout().write_all(fault.line().as_bytes())?;
             Err(Stop::Refused)
         }
     }

@@ -1,5 +1,5 @@
 -- The number, the place and the layer of a program's fault, and the line that tells them.
-use mathlib.Core.List.{List, _++_}
+use mathlib.Core.List.{List, [], _∷_, _++_}
 use Prim.Native.Nat.{ℕ}
 use lib.Chars.{codes}
 use Rattle.std.specs.Written.{decimal}
@@ -13,10 +13,8 @@ abbrev pub program-refusal : ProgramFault → Refusal
 program-refusal TooLong = record { number = 21; place = 65536; layer = 4 }
 program-refusal (Plan fault) = plan-refusal fault
 
-abbrev line-of : Refusal → List ℕ
-line-of r =
-    codes "refused "
-    ++ (decimal (r .number) ++ (codes " " ++ (decimal (r .place) ++ (codes " " ++ decimal (r .layer)))))
+abbrev pub line-of : Refusal → List ℕ
+line-of r = codes "refused " ++ decimal (r .number) ++ codes " " ++ decimal (r .place) ++ codes " " ++ decimal (r .layer) ++ (10 ∷ [])
 
 -- refused NUMBER PLACE LAYER
 abbrev pub refusal-line : ProgramFault → List ℕ

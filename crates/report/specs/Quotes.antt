@@ -1,6 +1,6 @@
 -- What a board's maker is told of a plan.
 use mathlib.Core.Bool.{cond}
-use mathlib.Core.List.{List, _∷_, _++_}
+use mathlib.Core.List.{List, [], _∷_, _++_}
 use Prim.Native.Nat.{ℕ}
 use lib.Chars.{codes}
 use lib.Dec.{ltb}
@@ -39,22 +39,17 @@ of-reading (Err fault) = Err (Plan fault)
 abbrev pub quoted : List ℕ → Result Quote ProgramFault
 quoted bs = cond (ltb 65536 (length bs)) (Err TooLong) (of-reading (decode bs))
 
--- one line for each value: the board's, and those of its memory
-abbrev pub board-text : Quote → List ℕ
-board-text q =
-    codes "tasks "
-    ++ (decimal (q .tasks)
-    ++ (10 ∷ codes "lines "
-    ++ (decimal (q .lines)
-    ++ (10 ∷ codes "events " ++ (decimal (q .events) ++ (10 ∷ codes "policy " ++ decimal (q .policy)))))))
-
-abbrev pub memory-text : Quote → List ℕ
-memory-text q =
-    codes "rule "
-    ++ (decimal (q .rule)
-    ++ (10 ∷ codes "ranks "
-    ++ (decimal (q .ranks)
-    ++ (10 ∷ codes "suspended " ++ (decimal (q .suspended) ++ (10 ∷ codes "rest " ++ decimal (q .rest)))))))
+-- a name and a value
+abbrev pub value-line : List ℕ → ℕ → List ℕ
+value-line name value = name ++ (32 ∷ []) ++ decimal value ++ (10 ∷ [])
 
 abbrev pub quote-text : Quote → List ℕ
-quote-text q = board-text q ++ (10 ∷ memory-text q)
+quote-text q =
+    value-line (codes "tasks") (q .tasks)
+    ++ value-line (codes "lines") (q .lines)
+    ++ value-line (codes "events") (q .events)
+    ++ value-line (codes "policy") (q .policy)
+    ++ value-line (codes "rule") (q .rule)
+    ++ value-line (codes "ranks") (q .ranks)
+    ++ value-line (codes "suspended") (q .suspended)
+    ++ value-line (codes "rest") (q .rest)

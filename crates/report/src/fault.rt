@@ -1,14 +1,12 @@
 // Why a program refuses its input.
 ghost use mathlib.Core.Path.{_≡_};
-ghost use Rattle.std.specs.Of.String.{string-bytes};
-ghost use Rattle.std.specs.Vec.{made};
+ghost use Rattle.text.specs.Texts.{written};
 ghost use Rattle.report.specs.declared.fault.ProgramFault.the-variants.{Plan};
-ghost use Rattle.report.specs.Faults.{program-refusal, refusal-line};
+ghost use Rattle.report.specs.Faults.{line-of, program-refusal, refusal-line};
 use formats::fault::PlanFault;
 use formats::fault::PlanFaultDebug;
 use formats::fault::Refusal;
-use std::alloc::AllocError;
-use std::alloc::Global;
+use text::text::Text;
 
 #[derive(Clone, Copy, Debug)]
 pub enum ProgramFault {
@@ -26,6 +24,20 @@ pub impl From<PlanFault> for ProgramFault as ProgramFaultFromPlan {
     }
 }
 
+fn refusal_line(refusal: Refusal) -> Text
+    ensures { λ r. ⌜ written r ≡ line-of refusal ⌝ }
+{
+    let mut text = Text::new();
+    text.word("refused ");
+    text.number(refusal.number as u64);
+    text.word(" ");
+    text.number(refusal.place as u64);
+    text.word(" ");
+    text.number(refusal.layer as u64);
+    text.word("\n");
+    text
+}
+
 impl ProgramFault {
     pub fn refusal(&self) -> Refusal
         ensures { λ r. ⌜ r ≡ program-refusal (now (self .entry)) ⌝ }
@@ -41,14 +53,9 @@ impl ProgramFault {
     }
 
     // The line that a program prints: `refused`, the number, the place and the layer.
-    pub fn line(&self, heap: Global) -> Result<String, AllocError>
-        ensures { λ r. ⌜ made r (λ text. string-bytes text ≡ refusal-line (now (self .entry))) ⌝ }
+    pub fn line(&self) -> Text
+        ensures { λ r. ⌜ written r ≡ refusal-line (now (self .entry)) ⌝ }
     {
-        let Refusal {
-            number,
-            place,
-            layer,
-        } = self.refusal();
-        format!(heap, "refused {number} {place} {layer}")
+        refusal_line(self.refusal())
     }
 }

@@ -1,17 +1,14 @@
 // What a board's maker is told of a plan.
 ghost use mathlib.Core.Path.{_≡_};
-ghost use Rattle.std.specs.declared.option.Option.the-variants.{Some};
-ghost use Rattle.std.specs.Of.String.{string-bytes};
-ghost use Rattle.std.specs.Vec.{made};
-ghost use Rattle.report.specs.Quotes.{board-text, memory-text, quote-text, quoted};
+ghost use mathlib.Core.List.{_++_};
+ghost use Rattle.text.specs.Texts.{cut, written};
+ghost use Rattle.report.specs.Quotes.{quote-text, quoted, value-line};
 use crate::fault::ProgramFault;
 use crate::fault::ProgramFaultFromPlan;
 use board::figure::figure;
 use board::nesting::LevelNestingRule;
 use formats::read::read_plan;
-use std::alloc::AllocError;
-use std::alloc::Global;
-use std::fmt;
+use text::text::Text;
 
 #[derive(Clone, Copy)]
 pub struct Quote {
@@ -62,57 +59,36 @@ pub fn quote_plan(bytes: &[u8]) -> Result<Quote, ProgramFault>
     quote_input(bytes)
 }
 
+// Adds a line: a name and a value.
+fn add_line(text: &mut Text, name: &str, value: u64)
+    ensures { λ _. ⌜ written (now (text .exit)) ≡ cut (written (now (text .entry)) ++ value-line (now (name .entry)) value) ⌝ }
+{
+    text.word(name);
+    text.word(" ");
+    text.number(value);
+    text.word("\n");
+}
+
+fn quote_lines(quote: Quote) -> Text
+    ensures { λ r. ⌜ written r ≡ quote-text quote ⌝ }
+{
+    let mut text = Text::new();
+    add_line(&mut text, "tasks", quote.tasks as u64);
+    add_line(&mut text, "lines", quote.lines as u64);
+    add_line(&mut text, "events", quote.events as u64);
+    add_line(&mut text, "policy", quote.policy as u64);
+    add_line(&mut text, "rule", quote.rule as u64);
+    add_line(&mut text, "ranks", quote.ranks as u64);
+    add_line(&mut text, "suspended", quote.suspended as u64);
+    add_line(&mut text, "rest", quote.rest as u64);
+    text
+}
+
 impl Quote {
     // One line for each value: its name and the value.
-    pub fn text(&self, heap: Global) -> Result<String, AllocError>
-        ensures { λ r. ⌜ made r (λ text. string-bytes text ≡ quote-text (now (self .entry))) ⌝ }
+    pub fn text(&self) -> Text
+        ensures { λ r. ⌜ written r ≡ quote-text (now (self .entry)) ⌝ }
     {
-        let board = BoardLines(*self);
-        let memory = MemoryLines(*self);
-        format!(heap, "{board}\n{memory}")
-    }
-}
-
-// The lines on the board.
-#[derive(Clone, Copy)]
-struct BoardLines(Quote);
-
-impl fmt::Display for BoardLines as BoardLinesDisplay {
-    ghost shown = { λ lines. Some (board-text (lines .0)) };
-
-    fn fmt<W: fmt::Write>(&self, f: &mut fmt::Formatter<W>) -> fmt::Result {
-        let Quote {
-            tasks,
-            lines,
-            events,
-            policy,
-            ..
-        } = self.0;
-        write!(
-            f,
-            "tasks {tasks}\nlines {lines}\nevents {events}\npolicy {policy}"
-        )
-    }
-}
-
-// The lines on its memory.
-#[derive(Clone, Copy)]
-struct MemoryLines(Quote);
-
-impl fmt::Display for MemoryLines as MemoryLinesDisplay {
-    ghost shown = { λ lines. Some (memory-text (lines .0)) };
-
-    fn fmt<W: fmt::Write>(&self, f: &mut fmt::Formatter<W>) -> fmt::Result {
-        let Quote {
-            rule,
-            ranks,
-            suspended,
-            rest,
-            ..
-        } = self.0;
-        write!(
-            f,
-            "rule {rule}\nranks {ranks}\nsuspended {suspended}\nrest {rest}"
-        )
+        quote_lines(*self)
     }
 }
