@@ -25,7 +25,7 @@ first-of-its-rank rank i = not (some-line rank (rank (record { 0 = i })) i)
 abbrev pub different-ranks : (LineNo → ℕ) → ℕ → ℕ
 different-ranks rank lines = how-many lines (first-of-its-rank rank)
 
--- the figure: the handlers that can be nested, and one routine below them
+-- the figure: of nested handlers the inmost is active, and below the others at most a scheduler and a task are suspended
 abbrev pub figure-of : (LineNo → ℕ) → ℕ → ℕ
 figure-of rank lines = 1 + different-ranks rank lines
 

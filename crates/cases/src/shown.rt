@@ -1,4 +1,4 @@
-// The worked cases as a theorem.
+// The worked cases, proved as one list.
 ghost use mathlib.Core.Path.{_≡_};
 ghost use lib.ListN.{length};
 ghost use Rattle.cases.specs.Worked.{Worked-cases-follow, cases};

@@ -53,24 +53,24 @@ module _ (below : ℕ → TaskNo → Option TaskNo) (f s : ℕ) (small : s < 2 ^
   pub favour-empty :
       ((u : ℕ) (c : TaskNo) → u < 2 ^ 16 → None-exactly-when-empty u (below u c)) → (c : TaskNo) →
       None-exactly-when-empty s (favour below f s c)
-  favour-empty law c =
-      by-ways c (None-exactly-when-empty s) (λ _. law s c small)
+  favour-empty owed c =
+      by-ways c (None-exactly-when-empty s) (λ _. owed s c small)
       (λ some.
-      let part = law (both s f) c both-small in
+      let part = owed (both s f) c both-small in
       (λ e. absurd (some (part .0 e)), λ e. absurd (some (omega (arith, and-le-l s f)))))
 
   pub favour-member :
       ((u : ℕ) (c : TaskNo) → u < 2 ^ 16 → Only-from u (below u c)) → (c : TaskNo) → Only-from s (favour below f s c)
-  favour-member law c =
-      by-ways c (Only-from s) (λ _. law s c small) (λ some t e. member-of-both (t .0) (law (both s f) c both-small t e) .0)
+  favour-member owed c =
+      by-ways c (Only-from s) (λ _. owed s c small) (λ some t e. member-of-both (t .0) (owed (both s f) c both-small t e) .0)
 
   pub favour-settles :
       ((u : ℕ) (c t : TaskNo) → u < 2 ^ 16 → below u c ≡ Some t → below u t ≡ Some t) →
       (c t : TaskNo) → favour below f s c ≡ Some t → favour below f s t ≡ Some t
-  favour-settles law c t e =
+  favour-settles owed c t e =
       ⊎-elim
-      (λ (b : eqb (both s f) 0 ≡ true). favour-none t b ∙ law s c t small (sym (favour-none c b) ∙ e))
-      (λ (b : eqb (both s f) 0 ≡ false). favour-some t b ∙ law (both s f) c t both-small (sym (favour-some c b) ∙ e))
+      (λ (b : eqb (both s f) 0 ≡ true). favour-none t b ∙ owed s c t small (sym (favour-none c b) ∙ e))
+      (λ (b : eqb (both s f) 0 ≡ false). favour-some t b ∙ owed (both s f) c t both-small (sym (favour-some c b) ∙ e))
       (cases-bool (eqb (both s f) 0))
 
   favours : (c : TaskNo) → Favours below f s c (favour below f s c)
