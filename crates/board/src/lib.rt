@@ -1,4 +1,6 @@
 // A board: its plan, the policy and the nesting rule that it names, and its memory figure.
+#![tactic(auto)]
+
 pub mod asking;
 pub mod choosing;
 pub mod figure;

@@ -1,4 +1,6 @@
 // The worked cases: one list is shown to follow from the rules, and a few are run through the calls.
+#![tactic(auto)]
+
 mod shown;
 
 use board::refusal::PlanRefusal;

@@ -1,4 +1,6 @@
 // The bytes of plans: reading them, writing them, and the faults of both.
+#![tactic(auto)]
+
 pub mod fault;
 pub mod make;
 pub mod read;

@@ -1,4 +1,6 @@
 // A policy and a nesting rule from outside: they show what the traits ask, and nothing more.
+#![tactic(auto)]
+
 ghost use Rattle.std.specs.Prelude.{◌≡◌, ℕ, ◌*◌, ◌%◌, [], ◌∷◌, length, Option};
 ghost use Rattle.std.proofs.Common.{ap, ◌∙◌, rules};
 ghost use Rattle.numbers.specs.declared.number.TaskNo.{TaskNo};

@@ -1,4 +1,6 @@
 // Policies: which of the ready tasks is chosen.
+#![tactic(auto)]
+
 mod nearest;
 pub mod policies;
 pub mod priorities;

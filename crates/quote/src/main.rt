@@ -1,4 +1,6 @@
 // Reads a plan from standard input and prints what a board's maker orders memory by.
+#![tactic(auto)]
+
 use report::fault::ProgramFault;
 use report::quote::{LIMIT, quote_plan};
 use std::io;

@@ -1,4 +1,6 @@
 // The state of a board, and what the calls do to it.
+#![tactic(auto)]
+
 pub mod applying;
 pub mod asking;
 mod ranking;

@@ -1,3 +1,5 @@
 // Text that is held in place, so that making it can't fail.
+#![tactic(auto)]
+
 pub mod text;
 pub mod writing;

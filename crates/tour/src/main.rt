@@ -1,4 +1,6 @@
 // Fourteen calls on a small board: the scheduler's first pass, then an interrupt that posts an event.
+#![tactic(auto)]
+
 use formats::fault::PlanFault;
 use formats::read::read_plan;
 use kernel::call::Call;

@@ -1,5 +1,7 @@
 // Runs for each refusal of each call, in the order of the tests: the last call of each run is refused, and where a later
 // test would find something too, the first one wins. Then runs whose last call is accepted, and refused questions.
+#![tactic(auto)]
+
 use board::plan::{Plan, Tables};
 use board::refusal::PlanRefusal;
 use kernel::call::Call;
