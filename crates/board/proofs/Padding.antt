@@ -1,6 +1,6 @@
 -- Tables of sixteen places.
 use Rattle.std.proofs.Common.{◌≡◌, ℕ, zero, suc, ◌+◌, ◌-◌, ◌<◌, ◌≤◌, min, List, [], ◌∷◌, ◌++◌, map, length, get_or, take, drop, set, replicate, sym, refl, ap, ◌∙◌, add-one, arith}
-use Rattle.std.proofs.lemmas.List.{append_assoc, map-append, length_map, length-append, length-replicate, length-take, length-take-le, set_at, take_all, take_at, take_more, take-map, drop_more, drop-replicate}
+use Rattle.std.proofs.lemmas.List.{append_assoc, map-append, length-map, length-append, length-replicate, length-take, length-take-le, set_at, take_all, take_at, take_more, take-map, drop_more, drop-replicate}
 use Rattle.numbers.specs.declared.number.TaskNo.{TaskNo}
 use Rattle.numbers.specs.declared.set.Set.{Set}
 use Rattle.board.specs.Plans.{bits_of, padded}
@@ -48,7 +48,7 @@ pub map_padded : {A B : Type 0} (f : A → B) (z : A) (xs : List A) → map f (p
 map_padded f z xs =
     map-append f xs (replicate (16 - length xs) z)
     ∙ (ap (λ v. map f xs ++ v) (map_replicate f (16 - length xs) z)
-    ∙ ap (λ n. map f xs ++ replicate (16 - n) (f z)) (sym (length_map xs f)))
+    ∙ ap (λ n. map f xs ++ replicate (16 - n) (f z)) (sym (length-map xs f)))
 
 pub get_or_zeros : (n k : ℕ) → ◌≡◌ {A = ℕ} (get_or (replicate n 0) k 0) 0
 get_or_zeros zero k = refl

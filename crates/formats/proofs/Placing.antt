@@ -2,7 +2,7 @@
 use Rattle.std.proofs.Common.{◌≡◌, ℕ, ◌+◌, ◌*◌, ◌/◌, ◌%◌, ◌<◌, ◌≤◌, cond, List, [], ◌∷◌, ◌++◌, map, length, get_or, take, drop, Ok, Err, Result, sym, refl, ap, ◌∙◌, zero-add, arith}
 use lib.Seq.{paste}
 use Rattle.std.proofs.lemmas.List.Edits.{paste_all, paste_none, paste-paste}
-use Rattle.std.proofs.lemmas.List.{append_assoc, length-append, length_map, length-take-le, map_more, take_all}
+use Rattle.std.proofs.lemmas.List.{append_assoc, length-append, length-map, length-take-le, map_more, take_all}
 use Rattle.std.proofs.lemmas.Bool.{cond-true, cond-false, lt-ltb, le-ltb}
 use Rattle.numbers.specs.declared.number.TaskNo.{TaskNo}
 use Rattle.numbers.specs.declared.set.Set.{Set}
@@ -37,7 +37,7 @@ module _ (o out : List ℕ) (at : ℕ) (sets : List (Set TaskNo)) (i : ℕ)
       v ≡ placed o at (twos (map bits_of (take (i + 1) sets)))
   put_sets_more v two w fits h is e wrote_two =
       let a : length (take i sets) ≡ i = length-take-le i sets (omega arith) in
-      let m : length done ≡ length (take i sets) = length_map (take i sets) bits_of in
+      let m : length done ≡ length (take i sets) = length-map (take i sets) bits_of in
       let b : length (twos done) ≡ 2 * length done = length_twos done in
       let d = placed_more o at (twos done) two (at + 2 * i) (omega arith) (omega arith) in
       let pair : two ≡ (entry.bits % 256 ∷ entry.bits / 256 % 256 ∷ []) = e ∙ ap (λ x. x % 256 ∷ x / 256 % 256 ∷ []) is in

@@ -15,11 +15,11 @@ refused :
     Err e ≡ x → (rest : List ℕ) → read_as r rest ≡ with_rest rest x
 refused is same why rest = ap (λ r. read_as r rest) (is ∙ ap Err same) ∙ ap (with_rest rest) why
 
-pub returns-in-err-plan : goal.returns-in-err-plan
-returns-in-err-plan c =
-    let q = err_from_is_err_and c.from-residual.result c.from-residual.ensures.1 in
+pub returns-in_err-plan : goal.returns-in_err-plan
+returns-in_err-plan c =
+    let q = err_from_is_err_and c.from_residual.result c.from_residual.ensures.1 in
     let p = given c.args.tables.now in
-    let answer = refused q.1 q.2 c.in-err-plan.ensures in
+    let answer = refused q.1 q.2 c.in_err-plan.ensures in
     record {
       answer = answer;
       as_read = λ small rest. answer rest ∙ sym (read_back p small.start small.favoured small.wakes rest);
@@ -28,8 +28,8 @@ returns-in-err-plan c =
 pub returns : goal.returns
 returns c =
     let p = given c.args.tables.now in
-    let answer : (rest : List ℕ) → Ok (parts c.in-ok-plan.plan, rest) ≡ with_rest rest (planned p) =
-    λ rest. ap (with_rest rest) c.in-ok-plan.ensures in
+    let answer : (rest : List ℕ) → Ok (parts c.in_ok-plan.plan, rest) ≡ with_rest rest (planned p) =
+    λ rest. ap (with_rest rest) c.in_ok-plan.ensures in
     record {
       answer = answer;
       as_read = λ small rest. answer rest ∙ sym (read_back p small.start small.favoured small.wakes rest);

@@ -12,40 +12,40 @@ refused :
     Err e ≡ x → sized bs r ≡ x
 refused bs is same why = ap (sized bs) (is ∙ ap Err same) ∙ why
 
-pub returns-in-err-check-head : goal.returns-in-err-check-head
-returns-in-err-check-head c =
-    let q = err_from_is_err_and c.from-residual.result c.from-residual.ensures.1 in
+pub returns-in_err-check_head : goal.returns-in_err-check_head
+returns-in_err-check_head c =
+    let q = err_from_is_err_and c.from_residual.result c.from_residual.ensures.1 in
     let bs = c.args.bytes.now in
     record {
-      answer = refused bs q.1 q.2 (fault_in_head bs c.in-err-check-head.ensures);
-      size = IfOk-from_err c.from-residual.result _ c.from-residual.ensures.0;
+      answer = refused bs q.1 q.2 (fault_in_head bs c.in_err-check_head.ensures);
+      size = IfOk-from_err c.from_residual.result _ c.from_residual.ensures.0;
       bytes = search rules;
     }
 
-pub returns-in-err-check-numbers : goal.returns-in-err-check-numbers
-returns-in-err-check-numbers c =
-    let r = c.from-residual-in-err-check-numbers in
+pub returns-in_err-check_numbers : goal.returns-in_err-check_numbers
+returns-in_err-check_numbers c =
+    let r = c.from_residual-in_err-check_numbers in
     let q = err_from_is_err_and r.result r.ensures.1 in
     let bs = c.args.bytes.now in
     record {
       answer =
           refused bs q.1 q.2
-          (fault_in_numbers bs c.in-ok-check-head.ensures
-          c.in-err-check-numbers.ensures);
+          (fault_in_numbers bs c.in_ok-check_head.ensures
+          c.in_err-check_numbers.ensures);
       size = IfOk-from_err r.result _ r.ensures.0;
       bytes = search rules;
     }
 
-pub returns-in-err-plan : goal.returns-in-err-plan
-returns-in-err-plan c =
-    let r = c.from-residual-in-err-plan in
+pub returns-in_err-plan : goal.returns-in_err-plan
+returns-in_err-plan c =
+    let r = c.from_residual-in_err-plan in
     let q = err_from_is_err_and r.result r.ensures.1 in
     let bs = c.args.bytes.now in
     record {
       answer =
           refused bs q.1 q.2
-          (fault_in_sets bs c.in-ok-check-head.ensures
-          c.in-ok-check-numbers.ensures c.if-bytes-size.false c.in-err-plan.ensures);
+          (fault_in_sets bs c.in_ok-check_head.ensures
+          c.in_ok-check_numbers.ensures c.if-bytes-size.false c.in_err-plan.ensures);
       size = IfOk-from_err r.result _ r.ensures.0;
       bytes = search rules;
     }
@@ -55,7 +55,7 @@ returns c =
     let bs = c.args.bytes.now in
     record {
       answer =
-          read_whole bs c.in-ok-check-head.ensures c.in-ok-check-numbers.ensures c.if-bytes-size.false c.in-ok-plan.ensures;
+          read_whole bs c.in_ok-check_head.ensures c.in_ok-check_numbers.ensures c.if-bytes-size.false c.in_ok-plan.ensures;
       size = c.if-bytes-size.false;
       bytes = search rules;
     }

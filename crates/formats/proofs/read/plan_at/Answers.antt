@@ -15,8 +15,8 @@ returns c =
     let events = get_or bs 7 0 in
     let ps : between 14 levels_at bs ≡ between 14 levels_at bs = refl in
     let ls : between levels_at wakes_at bs ≡ between levels_at wakes_at bs = refl in
-    let wakes = ap (λ n. map bits_of (take n c.sets-in-wakes.result)) (sub-zero events) ∙ c.sets-in-wakes.ensures in
-    c.from-tables.ensures
+    let wakes = ap (λ n. map bits_of (take n c.sets_in-wakes.result)) (sub-zero events) ∙ c.sets_in-wakes.ensures in
+    c.from_tables.ensures
     ∙ ap planned
-    (same_parts (get_or bs 8 0) (get_or bs 9 0) (c.from-bits.ensures ∙ c.word-at.ensures)
-    (c.from-bits-2.ensures ∙ c.word-at-2.ensures) ps ls wakes)
+    (same_parts (get_or bs 8 0) (get_or bs 9 0) (c.from_bits.ensures ∙ c.word_at.ensures)
+    (c.from_bits-2.ensures ∙ c.word_at-2.ensures) ps ls wakes)

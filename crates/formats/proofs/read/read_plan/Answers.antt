@@ -25,22 +25,22 @@ no_plan_begins bs e h begins =
     let z : ◌≡◌ {A = ℕ} 0 1 = cc in
     omega arith
 
-pub returns-in-err-plan : goal.returns-in-err-plan
-returns-in-err-plan c =
-    let q = err_from_is_err_and c.from-residual.result c.from-residual.ensures.1 in
+pub returns-in_err-plan : goal.returns-in_err-plan
+returns-in_err-plan c =
+    let q = err_from_is_err_and c.from_residual.result c.from_residual.ensures.1 in
     let bs = c.args.bytes.now.now in
-    let e = c.in-err-plan.field-0.0 in
-    let why : Err e ≡ decode bs = c.in-err-plan.ensures.answer in
+    let e = c.in_err-plan.field-0.0 in
+    let why : Err e ≡ decode bs = c.in_err-plan.ensures.answer in
     rw (q.1, q.2) (record { answer = why; kept = refl; whole = tt; one_form = tt; no_further = tt; first = comes_first bs e why; no_plan = no_plan_begins bs e why })
 
 pub returns : goal.returns
 returns c =
     let bs = c.args.bytes.now.now in
     let a =
-    ap (λ v. Ok (parts c.in-ok-plan.plan, v)) (take_rest bs c.in-ok-plan.size)
-    ∙ c.in-ok-plan.ensures.answer in
-    let plan = c.in-ok-plan.plan in
-    let whole = one_form bs c.in-ok-plan.ensures.bytes (parts plan) _ (sym a) in
+    ap (λ v. Ok (parts c.in_ok-plan.plan, v)) (take_rest bs c.in_ok-plan.size)
+    ∙ c.in_ok-plan.ensures.answer in
+    let plan = c.in_ok-plan.plan in
+    let whole = one_form bs c.in_ok-plan.ensures.bytes (parts plan) _ (sym a) in
     record {
       answer = a;
       kept = tt;

@@ -5,10 +5,10 @@ use Rattle.formats.proofs.read.sets_in.Goals as goal
 
 pub loop-i-preserved : goal.loop-i-preserved
 loop-i-preserved c = (
-  length-set c.loop-i.all c.loop-i.i c.from-bits.result ∙ c.loop-i.invariant.0,
+  length-set c.loop-i.all c.loop-i.i c.from_bits.result ∙ c.loop-i.invariant.0,
   sets_more c.args.bytes.now c.loop-i.all c.args.count c.loop-i.i c.requires.whole c.loop-i.invariant.0
-      c.loop-i.invariant.1 c.from-bits.result c.word-at.result c.requires.few c.loop-i-test.true
-      c.word-at.ensures c.from-bits.ensures,
+      c.loop-i.invariant.1 c.from_bits.result c.word_at.result c.requires.few c.loop-i-test.true
+      c.word_at.ensures c.from_bits.ensures,
 )
 
 pub returns : goal.returns

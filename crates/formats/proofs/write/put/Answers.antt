@@ -4,5 +4,5 @@ use Rattle.formats.proofs.write.put.Goals as goal
 
 pub returns : goal.returns
 returns c =
-    put_mid-paste c.args.at _ c.args.out.now c.copy-from-slice.new.self c.args.part.now
-    (length c.args.part.now) c.copy-from-slice.ensures.after (omega arith) refl
+    put_mid-paste c.args.at _ c.args.out.now c.copy_from_slice.new.self c.args.part.now
+    (length c.args.part.now) c.copy_from_slice.ensures.after (omega arith) refl

@@ -9,8 +9,8 @@ loop-i-init c = paste_none c.args.out.now c.args.at []
 pub loop-i-preserved : goal.loop-i-preserved
 loop-i-preserved c =
     put_sets_more c.args.out.now c.loop-i.out c.args.at c.args.sets.now c.loop-i.i c.loop-i.invariant
-    c.put.new.out c.to-le-bytes.result c.bits.result c.requires c.loop-i-test.true c.bits.ensures
-    c.to-le-bytes.ensures c.put.ensures
+    c.put.new.out c.to_le_bytes.result c.bits.result c.requires c.loop-i-test.true c.bits.ensures
+    c.to_le_bytes.ensures c.put.ensures
 
 pub returns : goal.returns
 returns c =

@@ -1,5 +1,5 @@
 use Rattle.std.proofs.Common.{◌≡◌, ℕ, ◌+◌, ◌*◌, ◌<◌, ◌≤◌, List, map, length, drop, Ok, sym, ap, ◌∙◌, arith}
-use Rattle.std.proofs.lemmas.List.{length_map}
+use Rattle.std.proofs.lemmas.List.{length-map}
 use Rattle.board.specs.Plans.{Parts, bits_of}
 use Rattle.board.specs.Viewed.{parts}
 use Rattle.board.proofs.Legality.{plan_legal}
@@ -26,7 +26,7 @@ returns c =
     let v1 = c.put.new.out in
     let v2 = c.put-2.new.out in
     let v3 = c.put-3.new.out in
-    let v4 = c.put-sets.new.out in
+    let v4 = c.put_sets.new.out in
     let same = c.tables-tables.ensures in
     let t : c.counts-counts.result.tasks ≡ length p.priorities = c.counts-counts.ensures.tasks in
     let l : c.counts-counts.result.lines ≡ length p.levels = c.counts-counts.ensures.lines in
@@ -37,12 +37,12 @@ returns c =
     let fits : size (length p.priorities) (length p.levels) (length p.wakes) ≤ length o =
     omega (arith, c.if-out-size.false) in
     let h =
-    written p o v1 v2 v3 v4 fits (c.put.ensures ∙ ap (placed o 0) c.head-of.ensures)
+    written p o v1 v2 v3 v4 fits (c.put.ensures ∙ ap (placed o 0) c.head_of.ensures)
     (c.put-2.ensures ∙ ap (λ (q : Parts). placed v1 14 q.priorities) same)
     (c.put-3.ensures
     ∙ (ap (λ (q : Parts). placed v2 (14 + c.counts-counts.result.tasks) q.levels) same
     ∙ ap (λ k. placed v2 (14 + k) p.levels) t))
-    (c.put-sets.ensures
+    (c.put_sets.ensures
     ∙ (ap (λ (q : Parts). placed v3 (14 + c.counts-counts.result.tasks + c.counts-counts.result.lines) (twos q.wakes)) same
     ∙ ap (λ k. placed v3 k (twos p.wakes)) at)) in
     record {
@@ -53,10 +53,10 @@ returns c =
           ∙ (legal_read_back p (plan_legal c.args.plan.now) _ ∙ ap (λ k. Ok (p, drop k o)) (sym whole));
     }
 
-pub put-sets-requires : goal.put-sets-requires
-put-sets-requires c =
+pub put_sets-requires : goal.put_sets-requires
+put_sets-requires c =
     let p = parts c.args.plan.now in
     let sets = c.tables-tables.result.wakes.now in
     let same : map bits_of sets ≡ p.wakes = ap (λ (q : Parts). q.wakes) c.tables-tables.ensures in
-    let n : length sets ≡ length p.wakes = sym (length_map sets bits_of) ∙ ap length same in
+    let n : length sets ≡ length p.wakes = sym (length-map sets bits_of) ∙ ap length same in
     omega (arith, c.if-out-size.false, c.counts-counts.ensures.events)

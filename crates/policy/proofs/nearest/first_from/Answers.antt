@@ -8,11 +8,11 @@ pub returns-then-contains : goal.returns-then-contains
 unfolding stay
 returns-then-contains c =
     let s = c.args.set.bits in
-    let i = c.loop-i.-i in
+    let i = c.loop-i._i in
     let from : c.if-from-lt16.at ≡ counted c.args.from =
     elim c.if-from-lt16.branch [
-      | then-from-lt16 w ↦ omega (arith, w.at_is, w.if-from-lt16.true)
-      | else-from-lt16 w ↦ omega (arith, w.at_is, w.if-from-lt16.false)
+      | then-from-lt16 w ↦ omega (arith, w.at-is, w.if-from-lt16.true)
+      | else-from-lt16 w ↦ omega (arith, w.at-is, w.if-from-lt16.false)
     ] in
     let n : 16 - i ≡ suc (15 - i) = omega arith in
     sym
@@ -24,7 +24,7 @@ returns-then-contains c =
 pub loop-i-preserved : goal.loop-i-preserved
 loop-i-preserved c =
     let s = c.args.set.bits in
-    let i = c.loop-i.-i in
+    let i = c.loop-i._i in
     let n : 16 - i ≡ suc (16 - (i + 1)) = omega arith in (
       omega arith,
       omega arith,
@@ -39,10 +39,10 @@ returns c =
     let s = c.args.set.bits in
     let from : c.if-from-lt16.at ≡ counted c.args.from =
     elim c.if-from-lt16.branch [
-      | then-from-lt16 w ↦ omega (arith, w.at_is, w.if-from-lt16.true)
-      | else-from-lt16 w ↦ omega (arith, w.at_is, w.if-from-lt16.false)
+      | then-from-lt16 w ↦ omega (arith, w.at-is, w.if-from-lt16.true)
+      | else-from-lt16 w ↦ omega (arith, w.at-is, w.if-from-lt16.false)
     ] in
-    let n : 16 - c.loop-i.-i ≡ 0 = omega arith in
+    let n : 16 - c.loop-i._i ≡ 0 = omega arith in
     sym
     (ap (first_from 16 s) (sym from)
     ∙ (c.loop-i.invariant.2 ∙ (ap (λ k. first_from k s c.loop-i.at) n ∙ first_end s c.loop-i.at)))

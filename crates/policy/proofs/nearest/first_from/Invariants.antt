@@ -4,5 +4,5 @@ use Rattle.policy.proofs.nearest.first_from.Given as goal
 
 abbrev pub invariant-loop-i : goal.invariant-loop-i
 invariant-loop-i l =
-    (l.at < 16) × (l.-i ≤ 16)
-    × (first_from 16 l.set.bits l.initial.at ≡ first_from (16 - l.-i) l.set.bits l.at)
+    (l.at < 16) × (l._i ≤ 16)
+    × (first_from 16 l.set.bits l.initial.at ≡ first_from (16 - l._i) l.set.bits l.at)
