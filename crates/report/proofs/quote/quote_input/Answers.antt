@@ -17,12 +17,12 @@ use Rattle.report.proofs.quote.quote_input.Goals as goal
 within : (bs : List ℕ) {x : Result (Parts × List ℕ) PlanFault} → ltb 65536 (length bs) ≡ false → x ≡ decode bs → of_reading x ≡ quoted bs
 within bs short read = ap of_reading read ∙ sym (cond-false _ _ _ short)
 
-pub returns-in-err-plan : goal.returns-in-err-plan
-returns-in-err-plan c =
-    let q = err_from_is_err_and c.from-residual.result c.from-residual.ensures.1 in
+pub returns-in_err-plan : goal.returns-in_err-plan
+returns-in_err-plan c =
+    let q = err_from_is_err_and c.from_residual.result c.from_residual.ensures.1 in
     let bs = c.args.bytes.now in
     let short = le-ltb 65536 (length bs) c.if-bytes-gt-LIMIT.false in
-    (q.1 ∙ ap Err q.2) ∙ within bs short c.in-err-plan.ensures.answer
+    (q.1 ∙ ap Err q.2) ∙ within bs short c.in_err-plan.ensures.answer
 
 abbrev quote_with : ℕ → ℕ → ℕ → ℕ → ℕ → ℕ → ℕ → ℕ → Quote
 quote_with t l n p r k s rest =
@@ -36,7 +36,7 @@ same_quote rest a b d e f g h = cc
 pub returns : goal.returns
 returns c =
     let bs = c.args.bytes.now in
-    let plan = c.in-ok-plan.plan in
+    let plan = c.in_ok-plan.plan in
     let p = parts plan in
     let nesting = c.nesting-nesting.result in
     let short = le-ltb 65536 (length bs) c.if-bytes-gt-LIMIT.false in
@@ -46,7 +46,7 @@ returns c =
     c.figure-suspended.ensures.is ∙ ap (λ rank. figure_of rank (length p.levels)) ranked in
     let less : c.figure-suspended.result - 1 ≡ different_ranks (plan_rank p) (length p.levels) = ap (λ n. n - 1) figure ∙ omega arith in
     ap Ok
-    (same_quote (length c.read-plan.new.bytes.now) c.counts-counts.ensures.tasks c.counts-counts.ensures.lines c.counts-counts.ensures.events
+    (same_quote (length c.read_plan.new.bytes.now) c.counts-counts.ensures.tasks c.counts-counts.ensures.lines c.counts-counts.ensures.events
     (ap (λ (q : Parts). q.policy) same) (ap (λ (q : Parts). q.rule) same)
     less figure)
-    ∙ within bs short c.in-ok-plan.ensures.answer
+    ∙ within bs short c.in_ok-plan.ensures.answer
