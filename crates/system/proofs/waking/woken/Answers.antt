@@ -7,7 +7,7 @@ use Rattle.system.proofs.waking.woken.Goals as goal
 use Rattle.system.proofs.waking.woken.Goals.{then-contains, else-contains}
 
 pub loop-e-init : goal.loop-e-init
-loop-e-init c = c.from-bits-tasks.ensures ∙ woken_none (map bits_of c.args.wakes.now) c.args.events.bits
+loop-e-init c = c.from_bits-tasks.ensures ∙ woken_none (map bits_of c.args.wakes.now) c.args.events.bits
 
 pub loop-e-preserved : goal.loop-e-preserved
 loop-e-preserved c =

@@ -8,11 +8,11 @@ use Rattle.system.proofs.system.System.begin.Goals as goal
 pub returns : goal.returns
 returns g c =
     let plan = c.args.plan in
-    let rank = rank_in c.of-rule.result.of in
+    let rank = rank_in c.of_rule.result.of in
     let few : lines (parts plan) ≤ 16 = omega (arith, plan.few_lines, plan.levels_counted) in
     record {
-      state = c.start_state.ensures;
+      state = c.start-state.ensures;
       plan = refl;
-      ranks = c.of-rule.ensures;
-      figure = same_figure rank (g.N.NestingRule.ranked c.args.rule.now) (lines (parts plan)) (λ i l. c.of-rule.ensures i (omega arith));
+      ranks = c.of_rule.ensures;
+      figure = same_figure rank (g.N.NestingRule.ranked c.args.rule.now) (lines (parts plan)) (λ i l. c.of_rule.ensures i (omega arith));
     }

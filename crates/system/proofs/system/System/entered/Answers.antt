@@ -19,14 +19,15 @@ push-requires c =
     let lower : gives_way rank c.args.line m.state.active ≡ true = search rules in
     room_over rank n (λ i. m.ranks.small i.0) c.args.line m.state.active (listed m.state.suspended) known lower m.stands
 
-pub invariant-of-self : goal.invariant-of-self
-invariant-of-self c =
+pub invariant_of-self : goal.invariant_of-self
+invariant_of-self c =
     let m = c.args.self.now in
     let rank = rank_in m.ranks.of in
     let n = lines (parts m.plan) in
     let known : ltb c.args.line.0 n ≡ true = search rules in
-    let lower : gives_way rank c.args.line m.state.active ≡ true = search rules in (
-      subst (λ (rs : List Routine). stacked rank n (Handler c.args.line) rs ≡ true) (sym c.push.ensures)
-          (over rank n c.args.line m.state.active (listed m.state.suspended) known lower m.stands),
-      tt,
-    )
+    let lower : gives_way rank c.args.line m.state.active ≡ true = search rules in
+    record {
+      stands =
+          subst (λ (rs : List Routine). stacked rank n (Handler c.args.line) rs ≡ true) (sym c.push.ensures)
+              (over rank n c.args.line m.state.active (listed m.state.suspended) known lower m.stands);
+    }

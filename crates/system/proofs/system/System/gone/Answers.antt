@@ -15,15 +15,16 @@ advance-requires g c =
     subst (λ (st : Standing). Room st (length (listed m.state.suspended))) (sym c.standing-standing.ensures)
     (room_at (rank_in m.ranks.of) (lines (parts m.plan)) (view m.state) m.stands)
 
-pub invariant-of-self : goal.invariant-of-self
-invariant-of-self g c =
+pub invariant_of-self : goal.invariant_of-self
+invariant_of-self g c =
     let m = c.args.self.now in
     let plan = parts m.plan in
     let rank = rank_in m.ranks.of in
     let choose = g.P.Policy.chosen c.args.policy.now in
-    let v = view m.state in (
-      subst (λ (w : rules.State). stacked rank (lines plan) w.active w.suspended ≡ true)
-          (sym (c.advance.ensures.state ∙ ap (λ (st : Standing). (go_at plan choose st v).0) c.standing-standing.ensures))
-          (go_keeps plan choose rank v m.stands),
-      tt,
-    )
+    let v = view m.state in
+    record {
+      stands =
+          subst (λ (w : rules.State). stacked rank (lines plan) w.active w.suspended ≡ true)
+              (sym (c.advance.ensures.state ∙ ap (λ (st : Standing). (go_at plan choose st v).0) c.standing-standing.ensures))
+              (go_keeps plan choose rank v m.stands);
+    }

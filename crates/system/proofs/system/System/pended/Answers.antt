@@ -17,13 +17,14 @@ push-requires c =
     room_task rank n c.in-Task.t (listed m.state.suspended)
     (subst (λ (a : Routine). stacked rank n a (listed m.state.suspended) ≡ true) c.in-Task.is m.stands)
 
-pub invariant-of-self : goal.invariant-of-self
-invariant-of-self c =
+pub invariant_of-self : goal.invariant_of-self
+invariant_of-self c =
     let m = c.args.self.now in
     let rank = rank_in m.ranks.of in
-    let n = lines (parts m.plan) in (
-      subst (λ (w : rules.State). stacked rank n w.active w.suspended ≡ true) (sym c.start_delayed.ensures)
-          (subst (λ (rs : List Routine). stacked rank n Delayed rs ≡ true) (sym c.push.ensures)
-          (subst (λ (a : Routine). stacked rank n a (listed m.state.suspended) ≡ true) c.in-Task.is m.stands)),
-      tt,
-    )
+    let n = lines (parts m.plan) in
+    record {
+      stands =
+          subst (λ (w : rules.State). stacked rank n w.active w.suspended ≡ true) (sym c.start_delayed.ensures)
+              (subst (λ (rs : List Routine). stacked rank n Delayed rs ≡ true) (sym c.push.ensures)
+              (subst (λ (a : Routine). stacked rank n a (listed m.state.suspended) ≡ true) c.in-Task.is m.stands));
+    }

@@ -9,7 +9,7 @@ returns-in-Some c =
     let here : true ≡ ltb c.args.task.0 (length c.args.self.now.records) = search rules in
     noted_change c.args.self.now.records c.args.task.0 blank _ (at_resume c.args.resume) (ltb-true _ _ (sym here)) refl
 
-pub returns-in-default : goal.returns-in-default
-returns-in-default c =
+pub returns-in_default : goal.returns-in_default
+returns-in_default c =
     let past : false ≡ ltb c.args.task.0 (length c.args.self.now.records) = search rules in
     noted_set_beyond c.args.self.now.records c.args.task.0 _ (ltb-false _ _ (sym past))

@@ -10,7 +10,7 @@ returns-in-Some c =
     let same : c.in-Some.record.now ≡ get_or c.args.self.now.records c.args.task.0 blank = search rules in
     ap noted same ∙ noted_get c.args.self.now.records c.args.task.0 blank (ltb-true _ _ (sym here))
 
-pub returns_in_None : goal.returns_in_None
-returns_in_None c =
+pub returns-in-None : goal.returns-in-None
+returns-in-None c =
     let past : false ≡ ltb c.args.task.0 (length c.args.self.now.records) = search rules in
     c.fresh.ensures ∙ noted_get_beyond c.args.self.now.records c.args.task.0 (ltb-false _ _ (sym past))
