@@ -11,6 +11,6 @@ loop-t-preserved c =
     let s = c.args.set.bits in
     let t = c.loop-t.t in
     elim c.if-contains.branch [
-      | then-contains w ↦ w.best_is ∙ sym (highest_yes s t (sym w.if-contains.ensures))
-      | else-contains w ↦ w.best_is ∙ (c.loop-t.invariant ∙ sym (highest_no s t (sym w.if-contains.ensures)))
+      | then-contains w ↦ w.best-is ∙ sym (highest_yes s t (sym w.if-contains.ensures))
+      | else-contains w ↦ w.best-is ∙ (c.loop-t.invariant ∙ sym (highest_no s t (sym w.if-contains.ensures)))
     ]

@@ -20,9 +20,9 @@ returns g c =
     let policy = c.args.policy in
     let calls = c.args.calls.now in
     let before = c.args.out.now in
-    let m = c.start_machine.result in
-    let begun = c.start_machine.ensures in
-    let done = c.apply-all.ensures in
+    let m = c.start-machine.result in
+    let begun = c.start-machine.ensures in
+    let done = c.apply_all.ensures in
     let p = parts plan in
     let choose : Chooses = g.P.Policy.chosen policy in
     let kept : Ranks = ranks_of m in
@@ -30,32 +30,32 @@ returns g c =
     let owes = g.met.P.Policy in
     let few : lines p ≤ 16 = omega (arith, plan.few_lines, plan.levels_counted) in
     let same : (i : LineNo) → i.0 < lines p → kept i ≡ rank i = λ i l. begun.ranks i (omega arith) in
-    let reached : state_of c.apply-all.new.self ≡ state_after p choose kept calls (start p) =
+    let reached : state_of c.apply_all.new.self ≡ state_after p choose kept calls (start p) =
     done.state
     ∙ (ap (λ (q : Plan). state_after (parts q) (g.P.Policy.chosen m.policy) kept calls (state_of m)) begun.plan
     ∙ (ap (λ (x : g.row.P.Denot). state_after p (g.P.Policy.chosen x) kept calls (state_of m)) begun.policy
     ∙ ap (λ (s : State). state_after p choose kept calls s) begun.state)) in
-    let led : (after p choose rank calls).state ≡ state_of c.apply-all.new.self =
+    let led : (after p choose rank calls).state ≡ state_of c.apply_all.new.self =
     sym (ap (λ (h : History). h.state) (same_after p choose kept rank same calls)) ∙ (after_state p choose kept calls ∙ sym reached) in
-    let written : c.apply-all.new.out ≡ answers p choose rank calls (start p) ++ drop (length calls) before =
+    let written : c.apply_all.new.out ≡ answers p choose rank calls (start p) ++ drop (length calls) before =
     done.out
     ∙ (ap (λ (q : Plan). answers (parts q) (g.P.Policy.chosen m.policy) kept calls (state_of m) ++ drop (length calls) before) begun.plan
     ∙ (ap (λ (x : g.row.P.Denot). answers p (g.P.Policy.chosen x) kept calls (state_of m) ++ drop (length calls) before) begun.policy
     ∙ (ap (λ (s : State). answers p choose kept calls s ++ drop (length calls) before) begun.state
     ∙ ap (λ (l : List (ℕ × ℕ)). l ++ drop (length calls) before) (same_answers p choose kept rank same calls)))) in
-    let past : told calls c.apply-all.new.out [] ≡ (after p choose rank calls).past = told_after p choose rank calls c.apply-all.new.out (drop (length calls) before) written in
+    let past : told calls c.apply_all.new.out [] ≡ (after p choose rank calls).past = told_after p choose rank calls c.apply_all.new.out (drop (length calls) before) written in
     record {
       fits = omega arith;
       state = sym led;
       out = written;
       sound =
-          subst (λ (l : List Answered). SoundHistory p choose rank (record { state = state_of c.apply-all.new.self; past = l })) (sym past)
+          subst (λ (l : List Answered). SoundHistory p choose rank (record { state = state_of c.apply_all.new.self; past = l })) (sym past)
           (sound_where_led p choose rank (plan_legal plan)
           (record { member = owes.member policy; settles = owes.settles policy })
           (record { bound = rank_bound; bounded = g.met.N.NestingRule.bounded c.args.rule.now })
-          (state_of c.apply-all.new.self) calls led);
+          (state_of c.apply_all.new.self) calls led);
       leads =
-          subst (λ (ranks : Ranks). Leads p choose ranks calls (state_of c.apply-all.new.self)) (sym done.ranks)
+          subst (λ (ranks : Ranks). Leads p choose ranks calls (state_of c.apply_all.new.self)) (sym done.ranks)
           (after_state p choose kept calls ∙ sym reached);
       same_ranks = λ i l. ap (λ (ranks : Ranks). ranks i) done.ranks ∙ begun.ranks i l;
       same_plan = done.plan ∙ begun.plan;
