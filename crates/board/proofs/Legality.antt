@@ -1,12 +1,10 @@
 -- Every plan is legal: its own tables make it.
-use Rattle.std.proofs.Common.{◌≡◌, ℕ, zero, suc, ◌+◌, ◌^◌, ◌<◌, ◌≤◌, Bool, true, false, ◌&&◌, ltb, leb, List, [], ◌∷◌, ◌++◌, map, length, get_or, take, Some, None, Ok, Option, sym, refl, ap, ◌∙◌, subst, arith}
+use Rattle.std.proofs.Common.{◌≡◌, ℕ, suc, ◌+◌, ◌^◌, ◌<◌, ◌≤◌, Bool, true, false, ◌&&◌, leb, List, [], ◌∷◌, map, length, get_or, None, Ok, Option, sym, refl, ap, ◌∙◌, subst, arith}
 use Rattle.std.proofs.lemmas.Bool.{lt-ltb, le-leb, and_from}
 use Rattle.board.specs.declared.plan.Plan.{Plan}
-use Rattle.board.specs.declared.refusal.PlanRefusal.{PlanRefusal}
 use Rattle.board.specs.declared.refusal.PlanRefusal.TheVariants.{TaskCount, LineCount, EventCount, StartSet, FavouredSet, WakeSet}
-use Rattle.board.specs.Kinds.{policy_number, rule_number}
-use Rattle.board.specs.Refusing.{needs, or_else, first, unless}
-use Rattle.board.specs.Plans.{Parts, bits_of, padded, within, count_tests, wake_tests, set_tests, planned}
+use Rattle.board.specs.Refusing.{needs, or_else, first}
+use Rattle.board.specs.Plans.{bits_of, within, count_tests, wake_tests, set_tests, planned}
 use Rattle.board.specs.Viewed.{parts}
 use Rattle.board.proofs.Padding.{get_or_padded}
 use Rattle.board.proofs.Planning.{by_stages, policy_legal, rule_legal}

@@ -1,5 +1,5 @@
 -- A plan made from tables, stage by stage.
-use Rattle.std.proofs.Common.{◌≡◌, ℕ, zero, suc, ◌+◌, ◌^◌, ◌<◌, ◌≤◌, Bool, true, false, cond, ◌&&◌, eqb, ltb, leb, List, [], ◌∷◌, ◌++◌, map, length, get_or, drop, Some, None, Ok, Err, Option, Result, sym, refl, ap, ◌∙◌, subst, ⊎_elim, arith, pow_pos}
+use Rattle.std.proofs.Common.{◌≡◌, ℕ, zero, suc, ◌+◌, ◌^◌, ◌<◌, ◌≤◌, Bool, true, false, cond, ◌&&◌, eqb, leb, List, [], ◌∷◌, ◌++◌, map, length, get_or, drop, Some, None, Ok, Err, Option, Result, sym, refl, ap, ◌∙◌, subst, ⊎_elim, arith, pow_pos}
 use Rattle.std.proofs.lemmas.Bool.{cases_lt, eqb-false, eqb-true, lt-leb, ltb-true, leb-true, and_parts}
 use Rattle.std.proofs.lemmas.List.{drop_all, drop_more}
 use Rattle.board.specs.declared.kinds.PolicyKind.{PolicyKind}
@@ -12,7 +12,7 @@ use Rattle.board.specs.declared.refusal.PlanRefusal.{PlanRefusal}
 use Rattle.board.specs.declared.refusal.PlanRefusal.TheVariants.{TaskCount, LineCount, EventCount, PolicyNumber, RuleNumber, StartSet, FavouredSet, WakeSet}
 use Rattle.board.specs.Kinds.{policy_number, policy_from, rule_number, rule_from}
 use Rattle.board.specs.Refusing.{needs, or_else, first, unless, checked}
-use Rattle.board.specs.Plans.{Parts, bits_of, count_tests, number_tests, within, wake_tests, set_tests, plan_tests, planned}
+use Rattle.board.specs.Plans.{Parts, bits_of, count_tests, number_tests, within, wake_tests, set_tests, planned}
 use Rattle.board.proofs.Refusing.{first_append, all_passed, first_failed, needs_met}
 
 -- the numbers of policies and rules

@@ -1,5 +1,5 @@
 -- Lists of tests: what the first finding is.
-use Rattle.std.proofs.Common.{◌≡◌, ℕ, zero, suc, ◌<◌, Bool, true, false, List, [], ◌∷◌, ◌++◌, get_or, Some, None, Ok, Err, Option, Result, sym, refl, ap, ◌∙◌, arith}
+use Rattle.std.proofs.Common.{◌≡◌, ℕ, zero, suc, ◌<◌, Bool, true, false, List, [], ◌∷◌, ◌++◌, get_or, Some, None, Ok, Err, Option, sym, refl, ap, ◌∙◌, arith}
 use Rattle.board.specs.Refusing.{needs, or_else, first, unless, checked, ComesFirst}
 
 module _ {E : Type 0} where

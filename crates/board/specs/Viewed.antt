@@ -1,5 +1,5 @@
 -- The parts of a plan and of tables, as the code holds them.
-use Rattle.std.specs.Prelude.{◌≡◌, ℕ, List, map, length, take, Ok, Err, Result}
+use Rattle.std.specs.Prelude.{◌≡◌, map, length, take, Ok, Err, Result}
 use Rattle.board.specs.declared.plan.Counts.{Counts}
 use Rattle.board.specs.declared.plan.Plan.{Plan}
 use Rattle.board.specs.declared.plan.Tables.{Tables}

@@ -1,7 +1,6 @@
 -- The worked cases of the rules, as one list.
 use Rattle.std.specs.Prelude.{◌≡◌, ℕ, List, [], ◌∷◌, map, length, take, Some, Ok, Err, Option, Result}
 use Rattle.numbers.specs.declared.number.TaskNo.{TaskNo}
-use Rattle.numbers.specs.declared.number.LineNo.{LineNo}
 use Rattle.policy.specs.Policies.{favour, stay}
 use Rattle.policy.specs.Priorities.{by_priority, share}
 use Rattle.board.specs.Figure.{figure_of}

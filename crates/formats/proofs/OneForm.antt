@@ -1,16 +1,15 @@
 -- Bytes that read as a plan are that plan's form, followed by the rest.
-use Rattle.std.proofs.Common.{◌≡◌, ℕ, zero, suc, ◌+◌, ◌-◌, ◌*◌, ◌/◌, ◌%◌, ◌<◌, ◌≤◌, Bool, true, false, ◌&&◌, eqb, leb, ◌⊎◌, List, [], ◌∷◌, ◌++◌, length, get_or, take, drop, Some, None, Ok, Err, Option, Result, sym, refl, ap, ◌∙◌, subst, inl, inr, ⊎_elim, add-zero, arith}
+use Rattle.std.proofs.Common.{◌≡◌, ℕ, zero, suc, ◌+◌, ◌-◌, ◌*◌, ◌/◌, ◌%◌, ◌<◌, ◌≤◌, Bool, ◌&&◌, eqb, leb, List, [], ◌∷◌, ◌++◌, length, get_or, take, drop, Some, None, Ok, Option, sym, refl, ap, ◌∙◌, ⊎_elim, add-zero, arith}
 use Rattle.std.proofs.lemmas.List.Edits.{length-between}
 use Rattle.std.proofs.lemmas.List.{append_assoc, drop-drop, drop_more, get_or-drop, get_or-take, get_or_past, length-take, take-append-drop}
 use Rattle.std.proofs.lemmas.Bool.{and_parts, cases_lt, eqb-true, leb-true}
 use Rattle.std.specs.List.{between}
-use Rattle.board.specs.Plans.{Parts, planned}
-use Rattle.board.specs.Refusing.{needs, or_else, first, unless}
+use Rattle.board.specs.Plans.{Parts}
+use Rattle.board.specs.Refusing.{needs, first, unless}
 use Rattle.board.proofs.Refusing.{needs_met}
 use Rattle.board.proofs.Planning.{or_else_none}
-use Rattle.formats.specs.declared.fault.PlanFault.{PlanFault}
 use Rattle.formats.specs.declared.fault.PlanFault.TheVariants.{Short, Mark, Version}
-use Rattle.formats.specs.Decode.{Bytes, Legal, carried, size_at, parts_at, head_tests, byte_tests, decode}
+use Rattle.formats.specs.Decode.{Bytes, carried, size_at, parts_at, head_tests, byte_tests, decode}
 use Rattle.formats.specs.Wire.{encode, head, twos, words, word}
 use Rattle.formats.proofs.Stages.{stages, counts, numbers, long}
 use Rattle.formats.proofs.Words.{length_words, low_byte, high_byte, twos_words}

@@ -1,15 +1,14 @@
 -- The bytes of tables are read as the tables, and refused as the tables are.
-use Rattle.std.proofs.Common.{◌≡◌, ℕ, ◌+◌, ◌-◌, ◌*◌, ◌/◌, ◌%◌, ◌^◌, ◌<◌, ◌≤◌, Bool, true, false, leb, List, [], ◌∷◌, ◌++◌, length, get_or, take, drop, Some, None, Ok, Err, Option, Result, sym, refl, ap, ◌∙◌, subst, arith, pow_mono}
+use Rattle.std.proofs.Common.{◌≡◌, ℕ, ◌+◌, ◌-◌, ◌*◌, ◌^◌, ◌<◌, ◌≤◌, List, ◌++◌, length, get_or, take, drop, Some, None, Ok, Option, sym, refl, ap, ◌∙◌, arith, pow_mono}
 use Rattle.std.proofs.lemmas.List.{append_assoc, drop_at, length-append, take_at}
 use Rattle.std.proofs.lemmas.Bool.{le-leb}
 use Rattle.std.specs.List.{between}
 use Rattle.board.specs.declared.refusal.PlanRefusal.{PlanRefusal}
 use Rattle.board.specs.Plans.{Parts, count_tests, number_tests, set_tests, plan_tests, planned}
-use Rattle.board.specs.Refusing.{needs, or_else, first, unless}
+use Rattle.board.specs.Refusing.{or_else, first, unless}
 use Rattle.board.proofs.Planning.{counts_in_range, or_else_none, sets_known}
 use Rattle.board.proofs.Refusing.{first_append}
-use Rattle.formats.specs.declared.fault.PlanFault.{PlanFault}
-use Rattle.formats.specs.Decode.{Legal, carried, size_at, parts_at, head_tests, byte_tests, decode, with_rest}
+use Rattle.formats.specs.Decode.{Legal, carried, parts_at, head_tests, byte_tests, decode, with_rest}
 use Rattle.formats.specs.Wire.{encode, head, size, twos, words}
 use Rattle.formats.proofs.Parts.{same_parts}
 use Rattle.formats.proofs.Stages.{by_stages, needs_yes}

@@ -1,5 +1,5 @@
 -- Reading a plan, stage by stage.
-use Rattle.std.proofs.Common.{◌≡◌, ℕ, ◌+◌, ◌-◌, ◌*◌, ◌<◌, ◌≤◌, Bool, true, false, leb, List, [], ◌∷◌, ◌++◌, map, length, get_or, drop, Some, None, Ok, Err, Option, Result, sym, refl, ap, ◌∙◌, subst, arith}
+use Rattle.std.proofs.Common.{◌≡◌, ℕ, ◌+◌, ◌*◌, ◌<◌, ◌≤◌, Bool, true, false, leb, List, [], ◌∷◌, ◌++◌, map, length, get_or, drop, Some, None, Ok, Err, Option, Result, sym, refl, ap, ◌∙◌, arith}
 use Rattle.std.proofs.lemmas.List.Edits.{length-between}
 use Rattle.std.proofs.lemmas.Bool.{le-leb, lt-leb}
 use Rattle.std.specs.List.{between}
@@ -11,7 +11,7 @@ use Rattle.board.proofs.Refusing.{first_append, all_passed, first_failed}
 use Rattle.formats.specs.declared.fault.PlanFault.{PlanFault}
 use Rattle.formats.specs.declared.fault.PlanFault.TheVariants.{Short, Refused}
 use Rattle.formats.specs.Decode.{carried, size_at, parts_at, head_tests, byte_tests, decode}
-use Rattle.formats.specs.Wire.{size, words}
+use Rattle.formats.specs.Wire.{words}
 use Rattle.formats.proofs.Words.{length_words}
 
 or_carried : (a b : Option PlanRefusal) → carried (or_else a b) ≡ or_else (carried a) (carried b)

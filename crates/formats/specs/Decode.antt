@@ -1,5 +1,5 @@
 -- What bytes say when they are read as a plan.
-use Rattle.std.specs.Prelude.{◌≡◌, ℕ, ◌+◌, ◌<◌, Bool, ◌&&◌, List, [], ◌∷◌, ◌++◌, map, length, drop, Some, None, Ok, Err, Option, Result, ◌==◌, nat_le, slice_index, slice_index_or}
+use Rattle.std.specs.Prelude.{◌≡◌, ℕ, ◌+◌, ◌<◌, ◌&&◌, List, [], ◌∷◌, ◌++◌, map, length, drop, Some, None, Ok, Err, Option, Result, ◌==◌, nat_le, slice_index, slice_index_or}
 use Rattle.std.specs.List.{between}
 use Rattle.board.specs.declared.plan.Plan.{Plan}
 use Rattle.board.specs.declared.refusal.PlanRefusal.{PlanRefusal}

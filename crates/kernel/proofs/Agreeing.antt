@@ -1,5 +1,5 @@
 -- Ranks that agree on the plan's lines lead to the same states and answers.
-use Rattle.std.proofs.Common.{◌≡◌, ℕ, ◌<◌, Bool, true, false, not, ltb, List, [], ◌∷◌, sym, refl, ap, ◌∙◌, subst}
+use Rattle.std.proofs.Common.{◌≡◌, ℕ, ◌<◌, Bool, true, false, not, ltb, List, [], ◌∷◌, sym, refl, ap, ◌∙◌}
 use Rattle.std.proofs.lemmas.Bool.{ltb-true}
 use Rattle.numbers.specs.declared.number.LineNo.{LineNo}
 use Rattle.numbers.specs.declared.number.TaskNo.{TaskNo}

@@ -1,5 +1,5 @@
 -- The shapes of a state, and what each call does to them: every test is taken apart here, once.
-use Rattle.std.proofs.Common.{◌≡◌, ℕ, ◌^◌, ◌<◌, Bool, true, false, cond, not, ◌&&◌, ◌||◌, eqb, ltb, List, [], ◌∷◌, Some, None, Option, sym, refl, ap, ◌∙◌, subst}
+use Rattle.std.proofs.Common.{◌≡◌, ℕ, ◌^◌, ◌<◌, Bool, true, false, cond, not, ◌&&◌, eqb, ltb, List, [], ◌∷◌, Some, None, Option, sym, refl, ap, subst}
 use lib.Bits.{bit_or}
 use Rattle.std.proofs.lemmas.Bool.{ltb-true}
 use Rattle.numbers.specs.declared.number.EventNo.{EventNo}
@@ -18,8 +18,8 @@ use Rattle.kernel.specs.declared.place.TaskPlace.{TaskPlace}
 use Rattle.kernel.specs.declared.place.TaskPlace.TheVariants.{Application, Adding, Requesting, Opening, Waiting, Blocking, Yielding}
 use Rattle.kernel.specs.declared.routine.Routine.{Routine}
 use Rattle.kernel.specs.declared.routine.Routine.TheVariants.{Direct, Delayed, Task, Handler}
-use Rattle.kernel.specs.States.{Record, State, start, with_enabled, with_pending, with_delayed, with_request, with_active, with_suspended, with_current, with_ready, with_posted, with_copied, with_chosen, with_scheduler, task_of, with_task, at_place, at_resume, at_kept, move, line_place, with_line}
-use Rattle.kernel.specs.Rules.{Chooses, Ranks, Outcome, apply, decide, enable, events, gives_way, go_handler, go_scheduler, go_task, in_application, in_handler, lines, nested, provided, raise_line, return_to, switch, tasks, woken}
+use Rattle.kernel.specs.States.{State, start, with_enabled, with_pending, with_delayed, with_request, with_active, with_suspended, with_current, with_ready, with_posted, with_copied, with_chosen, with_scheduler, task_of, with_task, at_place, at_resume, at_kept, move, line_place, with_line}
+use Rattle.kernel.specs.Rules.{Chooses, Ranks, Outcome, apply, decide, events, gives_way, go_handler, go_scheduler, go_task, in_application, in_handler, lines, nested, provided, raise_line, return_to, switch, tasks, woken}
 use Rattle.kernel.specs.Histories.{Answered, History, after, run, step}
 
 -- what stands below the handlers: the current task alone, or a scheduler above it (delayed if the flag is on)

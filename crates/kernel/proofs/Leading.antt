@@ -4,7 +4,7 @@ use Rattle.board.specs.Plans.{Parts}
 use Rattle.kernel.specs.declared.call.Call.{Call}
 use Rattle.kernel.specs.Numbers.{routine_number}
 use Rattle.kernel.specs.States.{State, start}
-use Rattle.kernel.specs.Rules.{Chooses, Outcome, Ranks, apply, numbers}
+use Rattle.kernel.specs.Rules.{Chooses, Ranks, apply}
 use Rattle.kernel.specs.Histories.{Follows, History, Leads, after, run, step}
 
 module _ (plan : Parts) (choose : Chooses) (rank : Ranks) where

@@ -1,5 +1,5 @@
 -- What a legal plan says of its parts.
-use Rattle.std.proofs.Common.{◌≡◌, ℕ, ◌^◌, ◌<◌, ◌≤◌, List, ◌++◌, length, get_or, Some, None, Ok, Option, sym, refl, ◌∙◌, arith}
+use Rattle.std.proofs.Common.{◌≡◌, ℕ, ◌^◌, ◌<◌, ◌≤◌, ◌++◌, length, get_or, Some, None, Ok, Option, sym, refl, ◌∙◌, arith}
 use Rattle.board.specs.Plans.{Parts, count_tests, number_tests, plan_tests, planned, set_tests}
 use Rattle.board.specs.Refusing.{first, unless}
 use Rattle.board.proofs.Planning.{counts_in_range, or_else_none, sets_known}

@@ -1,5 +1,5 @@
 -- States and answers of lists, call by call.
-use Rattle.std.proofs.Common.{◌≡◌, ℕ, suc, List, [], ◌∷◌, ◌++◌, length, sym, refl, ap, ◌∙◌}
+use Rattle.std.proofs.Common.{◌≡◌, ℕ, suc, List, [], ◌∷◌, ◌++◌, length, refl, ap, ◌∙◌}
 use Rattle.board.specs.Plans.{Parts}
 use Rattle.kernel.specs.declared.call.Call.{Call}
 use Rattle.kernel.specs.States.{State, start}

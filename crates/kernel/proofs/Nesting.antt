@@ -1,11 +1,11 @@
 -- Inner handlers have the lower rank.
-use Rattle.std.proofs.Common.{◌≡◌, ℕ, zero, suc, ◌+◌, ◌<◌, ◌≤◌, Bool, true, false, cond, eqb, ltb, List, [], ◌∷◌, ◌++◌, reverse, length, get_or, sym, refl, ap, ◌∙◌, subst, arith, length-append}
+use Rattle.std.proofs.Common.{◌≡◌, ℕ, suc, ◌+◌, ◌<◌, ◌≤◌, Bool, true, false, eqb, ltb, List, [], ◌∷◌, ◌++◌, reverse, length, get_or, sym, refl, ap, ◌∙◌, arith, length-append}
 use mathlib.Core.List.{reverse_aux}
 use lib.ListN.{get_or-append}
 use Rattle.std.proofs.lemmas.Bool.{ltb-true, ltb-false}
 use Rattle.numbers.specs.declared.number.LineNo.{LineNo}
 use Rattle.numbers.specs.declared.number.TaskNo.{TaskNo}
-use Rattle.board.specs.Figure.{figure_of, Nested}
+use Rattle.board.specs.Figure.{Nested}
 use Rattle.board.specs.Plans.{Parts}
 use Rattle.board.proofs.Counting.{nest_within}
 use Rattle.kernel.specs.declared.call.Call.{Call}

@@ -1,17 +1,17 @@
 -- A line's new raises are its accepted enters, plus one exactly when it is pending.
-use Rattle.std.proofs.Common.{◌≡◌, ℕ, zero, suc, ◌+◌, ◌^◌, ◌<◌, ◌≤◌, Bool, true, false, cond, not, ◌&&◌, ◌||◌, eqb, List, [], ◌∷◌, sym, refl, ap, ◌∙◌, subst, arith}
+use Rattle.std.proofs.Common.{◌≡◌, ℕ, ◌+◌, ◌^◌, ◌<◌, ◌≤◌, Bool, true, false, cond, not, ◌&&◌, ◌||◌, eqb, List, ◌∷◌, refl, ap, ◌∙◌, arith}
 use Rattle.std.proofs.lemmas.Bool.{eqb-true}
 use Rattle.numbers.specs.declared.number.LineNo.{LineNo}
-use Rattle.numbers.specs.Sets.{has, minus, with_member}
+use Rattle.numbers.specs.Sets.{has}
 use Rattle.numbers.proofs.Members.{has_minus, has_power, has_with_member, none_in_empty}
 use Rattle.board.specs.Plans.{Parts}
 use Rattle.kernel.specs.declared.call.Call.{Call}
 use Rattle.kernel.specs.declared.call.Call.TheVariants.{Raise, Enter, Pend, Go, Signal, Block, Post, Leave, Mask, Unmask}
-use Rattle.kernel.specs.States.{State, start}
+use Rattle.kernel.specs.States.{State}
 use Rattle.kernel.specs.Rules.{Chooses, Ranks, lines}
 use Rattle.kernel.specs.Histories.{Answered, History, after}
 use Rattle.kernel.specs.Afterwards.{RaisesAreEnteredOrPending, accepted_enter, accepted_enters, new_raise, new_raises}
-use Rattle.kernel.proofs.Cases.{Base, shaped, Case, refused, raises, enters, pends, adds, requests, opens, waits, resumes, unreadies, yields, copies, wakes, clears, idles, chooses, notes, switches, switches_none, loads, returns_again, returns_back, handler_requests, signals, blocks, posts, leaves_again, leaves_back, masks, unmasks, Held, held, held_after}
+use Rattle.kernel.proofs.Cases.{Base, Case, refused, raises, enters, pends, adds, requests, opens, waits, resumes, unreadies, yields, copies, wakes, clears, idles, chooses, notes, switches, switches_none, loads, returns_again, returns_back, handler_requests, signals, blocks, posts, leaves_again, leaves_back, masks, unmasks, Held, held, held_after}
 
 module _ (plan : Parts) (few : lines plan ≤ 16) where
   abbrev Counted : ℕ → List Answered → Type 0

@@ -1,11 +1,11 @@
 -- A task in application code is the one that the policy chooses.
-use Rattle.std.proofs.Common.{◌≡◌, ℕ, zero, suc, ◌+◌, ◌^◌, ◌<◌, ◌≤◌, Bool, true, false, cond, not, ◌&&◌, ◌||◌, eqb, ◌≢◌, ◌⊎◌, List, [], ◌∷◌, length, get_or, set, replicate, Some, None, Option, sym, refl, ap, ◌∙◌, subst, inl, inr, lt_of_lt_of_le, arith, length-set, get_or-set_other, get_or-set_same, pow_pos, pow_mono}
+use Rattle.std.proofs.Common.{◌≡◌, ℕ, zero, suc, ◌^◌, ◌<◌, Bool, true, false, cond, ◌&&◌, ◌||◌, eqb, ◌≢◌, ◌⊎◌, List, [], ◌∷◌, length, get_or, set, replicate, Some, sym, refl, ap, ◌∙◌, subst, inl, inr, lt_of_lt_of_le, arith, length-set, get_or-set_other, get_or-set_same, pow_pos, pow_mono}
 use lib.Bits.{bit_or, or_zero_r, or_lt}
 use lib.ListN.{length-replicate}
 use Rattle.std.proofs.lemmas.Bool.{eqb-true, eqb-false, true≢false}
 use Rattle.numbers.specs.declared.number.LineNo.{LineNo}
 use Rattle.numbers.specs.declared.number.TaskNo.{TaskNo}
-use Rattle.numbers.specs.Sets.{has, minus, with_member}
+use Rattle.numbers.specs.Sets.{has}
 use Rattle.numbers.proofs.Members.{member_small, minus_self, minus_small, none_in_empty}
 use Rattle.board.specs.Plans.{Parts}
 use Rattle.kernel.specs.declared.call.Call.{Call}
@@ -15,7 +15,7 @@ use Rattle.kernel.specs.declared.place.SchedulerPlace.{SchedulerPlace}
 use Rattle.kernel.specs.declared.place.SchedulerPlace.TheVariants.{Copying, Waking, Clearing, Choosing, Noting, Switching, Loading, Returning}
 use Rattle.kernel.specs.declared.place.TaskPlace.{TaskPlace}
 use Rattle.kernel.specs.declared.place.TaskPlace.TheVariants.{Application, Adding, Requesting, Opening, Waiting, Blocking, Yielding}
-use Rattle.kernel.specs.States.{Record, State, start, fresh, with_enabled, with_pending, with_delayed, with_request, with_current, with_ready, with_posted, with_lines, task_of, with_task, at_place, at_resume, line_place, with_line}
+use Rattle.kernel.specs.States.{Record, State, start, fresh, with_enabled, with_pending, with_delayed, with_request, with_current, with_ready, with_posted, with_lines, task_of, with_task, at_place, at_resume, with_line}
 use Rattle.kernel.specs.Rules.{Chooses, Ranks, lines, tasks, woken, woken_below}
 use Rattle.kernel.specs.Histories.{Answered, History, after}
 use Rattle.kernel.specs.Afterwards.{RunningTaskIsThePolicysChoice}

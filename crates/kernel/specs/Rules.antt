@@ -1,6 +1,6 @@
 -- The rules of the ten calls: what each leads to, and its answer.
 -- A test that fails refuses with its number and changes nothing; the tests stand in their order.
-use Rattle.std.specs.Prelude.{ℕ, zero, suc, ◌+◌, ◌^◌, Bool, true, false, cond, not, ◌&&◌, ◌||◌, List, [], ◌∷◌, length, Some, None, Option, ◌==◌, bit_or, nat_lt, slice_index}
+use Rattle.std.specs.Prelude.{ℕ, zero, suc, ◌^◌, Bool, true, false, cond, not, ◌&&◌, ◌||◌, List, [], ◌∷◌, length, Some, None, Option, ◌==◌, bit_or, nat_lt, slice_index}
 use Rattle.numbers.specs.declared.number.EventNo.{EventNo}
 use Rattle.numbers.specs.declared.number.LineNo.{LineNo}
 use Rattle.numbers.specs.declared.number.TaskNo.{TaskNo}
@@ -17,7 +17,7 @@ use Rattle.kernel.specs.declared.place.TaskPlace.TheVariants.{Application, Addin
 use Rattle.kernel.specs.declared.routine.Routine.{Routine}
 use Rattle.kernel.specs.declared.routine.Routine.TheVariants.{Direct, Delayed, Task, Handler}
 use Rattle.kernel.specs.Numbers.{routine_number}
-use Rattle.kernel.specs.States.{Record, State, with_enabled, with_pending, with_delayed, with_request, with_active, with_suspended, with_current, with_ready, with_posted, with_copied, with_chosen, with_scheduler, task_of, with_task, at_place, at_resume, at_kept, move, line_place, with_line}
+use Rattle.kernel.specs.States.{State, with_enabled, with_pending, with_delayed, with_request, with_active, with_suspended, with_current, with_ready, with_posted, with_copied, with_chosen, with_scheduler, task_of, with_task, at_place, at_resume, at_kept, move, line_place, with_line}
 
 -- the meaning of a policy: the ready tasks and the current task to the chosen task
 abbrev pub Chooses : Type 0

@@ -1,5 +1,5 @@
 -- The state of a board.
-use Rattle.std.specs.Prelude.{ℕ, ◌-◌, ◌^◌, Bool, true, false, List, [], ◌∷◌, length, set, replicate, None, Option, slice_index_or, slice_set}
+use Rattle.std.specs.Prelude.{ℕ, ◌-◌, ◌^◌, Bool, true, false, List, [], ◌∷◌, length, replicate, None, Option, slice_index_or, slice_set}
 use Rattle.numbers.specs.declared.number.LineNo.{LineNo}
 use Rattle.numbers.specs.declared.number.TaskNo.{TaskNo}
 use Rattle.board.specs.Plans.{Parts}

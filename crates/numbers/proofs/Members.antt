@@ -3,7 +3,7 @@ use Rattle.std.proofs.Common.{◌≡◌, ℕ, zero, suc, ◌+◌, ◌-◌, ◌*�
 use native.Mathlib.Nat.{mod-one, div-eq_of_lt, pow-le-pow_right}
 use lib.Bits.{bit_and, bit_or, bit_xor, and_self, xor_lt, xor_self, xor_zero_r}
 use Rattle.std.proofs.lemmas.Nat.{and_le_l, le-div, pow_below, xor_shr, xor_mod, shr-shr, shr_le, mod-pow-add, and_shr, and_mod, or_shr, or_mod, shl-shr, pow-add}
-use Rattle.std.proofs.lemmas.Bool.{eqb-true, eqb-false, eq-eqb, ne_eqb, cond-true, lt-ltb, ltb-true, le-ltb, cases_lt, cases_Bool, true≢false}
+use Rattle.std.proofs.lemmas.Bool.{eqb-false, eq-eqb, ne_eqb, cond-true, lt-ltb, ltb-true, le-ltb, cases_lt, cases_Bool, true≢false}
 use Rattle.numbers.specs.Sets.{has, AllBelow, minus, with_member}
 
 -- a set below 2 ^ n has no member from n on

@@ -1,11 +1,11 @@
 -- The policies `priority` and `shared`: stay among the members of highest priority.
-use Rattle.std.specs.Prelude.{◌≡◌, ℕ, zero, suc, ◌+◌, ◌-◌, ◌%◌, ◌^◌, ◌<◌, ◌≤◌, min, max, Bool, true, false, cond, ◌&&◌, ◌⊎◌, List, Some, None, Option, ◌==◌}
+use Rattle.std.specs.Prelude.{◌≡◌, ℕ, zero, suc, ◌+◌, ◌^◌, ◌<◌, ◌≤◌, max, true, false, ◌⊎◌, List, Some, None, Option, ◌==◌}
 use Rattle.std.proofs.Math.Path.{refl}
 use Rattle.std.proofs.Common.{sym, ap, ◌∙◌, subst, inl, inr, ⊎_elim, add-one, arith}
 use Rattle.std.proofs.lemmas.Bool.{cases_Bool, cases_lt, eqb-true, eq-eqb, cond-true, cond-false, and_parts, and_from}
 use Rattle.numbers.specs.declared.number.TaskNo.{TaskNo}
-use Rattle.numbers.specs.Sets.{has, gathered}
-use Rattle.policy.specs.Policies.{Exactly, counted, up, Nearest, stay}
+use Rattle.numbers.specs.Sets.{has}
+use Rattle.policy.specs.Policies.{Exactly, counted, Nearest}
 use Rattle.policy.specs.Priorities.{priority_of, NoneHigher, Foremost, HighestThenLowest, NearestOfHighest, StaysOrNearestOfHighest, highest_below, highest_priority, member_of_priority, leaders, by_priority, share}
 use Rattle.numbers.proofs.Members.{no_member_empty, member_small, none_in_empty}
 use Rattle.numbers.proofs.Gathering.{has_gathered, gathered_small}

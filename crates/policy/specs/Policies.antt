@@ -1,6 +1,6 @@
 -- What every policy owes, and what the policy `stay` and a favoured group choose.
 -- A policy's meaning takes the set of ready tasks and the current task to the chosen task, or to none.
-use Rattle.std.specs.Prelude.{◌≡◌, ℕ, zero, suc, ◌+◌, ◌-◌, ◌%◌, ◌<◌, min, Bool, true, false, cond, Some, None, Option, ◌==◌, ◌≢◌}
+use Rattle.std.specs.Prelude.{◌≡◌, ℕ, zero, suc, ◌+◌, ◌-◌, ◌%◌, ◌<◌, min, true, false, cond, Some, None, Option, ◌==◌, ◌≢◌}
 use Rattle.numbers.specs.declared.number.TaskNo.{TaskNo}
 use Rattle.numbers.specs.Sets.{has, both}
 

@@ -1,6 +1,6 @@
 -- What the policies `priority` and `shared` choose. A list gives the tasks' priorities, from task 0 on;
 -- a task past its end has priority 0.
-use Rattle.std.specs.Prelude.{◌≡◌, ℕ, zero, suc, ◌<◌, ◌≤◌, max, Bool, true, false, cond, ◌&&◌, List, Some, None, Option, ◌==◌, slice_index}
+use Rattle.std.specs.Prelude.{◌≡◌, ℕ, zero, suc, ◌<◌, ◌≤◌, max, Bool, true, cond, ◌&&◌, List, Some, None, Option, ◌==◌, slice_index}
 use Rattle.numbers.specs.declared.number.TaskNo.{TaskNo}
 use Rattle.numbers.specs.Sets.{has, gathered}
 use Rattle.policy.specs.Policies.{Between, counted, stay}

@@ -1,10 +1,10 @@
 -- The policy `stay`: its function is its relation, and it keeps what a policy owes.
-use Rattle.std.specs.Prelude.{◌≡◌, ℕ, zero, suc, ◌+◌, ◌-◌, ◌%◌, ◌^◌, ◌<◌, ◌≤◌, min, Bool, true, false, cond, ◌⊎◌, Some, None, Option, ◌≢◌, refl}
-use Rattle.std.proofs.Common.{sym, ap, ◌∙◌, subst, inl, inr, ⊎_elim, arith}
+use Rattle.std.specs.Prelude.{◌≡◌, ℕ, zero, suc, ◌+◌, ◌%◌, ◌^◌, ◌<◌, ◌≤◌, true, false, Some, None, Option, ◌≢◌, refl}
+use Rattle.std.proofs.Common.{sym, ap, ◌∙◌, subst, ⊎_elim, arith}
 use Rattle.std.proofs.lemmas.Bool.{cases_Bool, cases_lt, cond-true, cond-false, true≢false}
 use Rattle.numbers.specs.declared.number.TaskNo.{TaskNo}
 use Rattle.numbers.specs.Sets.{has}
-use Rattle.policy.specs.Policies.{NoneExactlyWhenEmpty, OnlyFrom, Exactly, counted, up, Between, Nearest, StaysOrNearest, first_from, stay}
+use Rattle.policy.specs.Policies.{NoneExactlyWhenEmpty, OnlyFrom, Exactly, counted, up, Nearest, StaysOrNearest, first_from, stay}
 use Rattle.numbers.proofs.Members.{no_member_empty, none_in_empty, member_small}
 
 -- none, and the set is empty; or a task of the set

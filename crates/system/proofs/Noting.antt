@@ -1,5 +1,5 @@
 -- The records one by one, and as the rules speak of them.
-use Rattle.std.proofs.Common.{◌≡◌, ℕ, zero, suc, ◌<◌, ◌≤◌, false, List, [], ◌∷◌, map, length, get_or, set, sym, refl, ap, ◌∙◌, arith}
+use Rattle.std.proofs.Common.{◌≡◌, ℕ, zero, suc, ◌<◌, ◌≤◌, false, List, [], ◌∷◌, length, get_or, set, refl, ap, ◌∙◌, arith}
 use Rattle.kernel.specs.declared.place.TaskPlace.TheVariants.{Application}
 use Rattle.kernel.specs.States.{Record, fresh}
 use Rattle.system.specs.declared.table.TaskRecord.{TaskRecord}

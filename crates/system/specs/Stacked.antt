@@ -1,6 +1,5 @@
 -- How routines stand on one another.
 use Rattle.std.specs.Prelude.{ℕ, Bool, false, ◌&&◌, List, [], ◌∷◌, nat_lt, slice_index}
-use Rattle.numbers.specs.declared.number.LineNo.{LineNo}
 use Rattle.kernel.specs.declared.routine.Routine.{Routine}
 use Rattle.kernel.specs.declared.routine.Routine.TheVariants.{Direct, Delayed, Task, Handler}
 use Rattle.kernel.specs.Rules.{Ranks, gives_way, is_task}

@@ -1,5 +1,4 @@
 -- What a system holds, as the rules speak of it.
-use Rattle.std.specs.Prelude.{◌≡◌}
 use Rattle.board.specs.declared.plan.Plan.{Plan}
 use Rattle.board.specs.Plans.{Parts}
 use Rattle.board.specs.Viewed.{parts}

@@ -1,8 +1,6 @@
 -- The machine's state, as the rules speak of it.
 use Rattle.std.specs.Prelude.{ℕ, ◌<◌, true, false}
 use Rattle.board.specs.Plans.{Parts}
-use Rattle.kernel.specs.declared.place.LinePlace.{LinePlace}
-use Rattle.kernel.specs.declared.place.TaskPlace.{TaskPlace}
 use Rattle.kernel.specs.declared.routine.Routine.{Routine}
 use Rattle.kernel.specs.declared.routine.Routine.TheVariants as routine
 use Rattle.kernel.specs.States as rules

@@ -1,11 +1,11 @@
-use Rattle.std.proofs.Common.{◌≡◌, [], ◌∷◌, sym, ap, ◌∙◌, subst}
+use Rattle.std.proofs.Common.{[], ◌∷◌, sym, ◌∙◌, subst}
 use Rattle.board.specs.declared.plan.Plan.{Plan}
 use Rattle.board.specs.Viewed.{parts}
 use Rattle.kernel.specs.declared.call.Call.TheVariants.{Raise, Enter}
 use Rattle.kernel.specs.Afterwards.{SoundHoweverLed}
 use Rattle.kernel.specs.Histories.{Follows, Leads}
 use Rattle.kernel.specs.Rules.{Chooses, Ranks}
-use Rattle.machine.specs.Machines.{plan_of, policy_of, ranks_of, state_of}
+use Rattle.machine.specs.Machines.{plan_of, ranks_of, state_of}
 use Rattle.outside.proofs.raised_and_entered.Goals as goal
 
 pub returns : goal.returns

@@ -1,4 +1,4 @@
-use Rattle.std.proofs.Common.{replicate, refl, arith}
+use Rattle.std.proofs.Common.{replicate, refl}
 use Rattle.board.proofs.Padding.{fill_more, fill_all}
 use Rattle.board.proofs.making.padded.Goals as goal
 

@@ -6,7 +6,7 @@ use Rattle.board.specs.Plans.{Parts, planned}
 use Rattle.board.specs.Viewed.{given, parts}
 use Rattle.formats.specs.declared.fault.PlanFault.{PlanFault}
 use Rattle.formats.specs.declared.fault.PlanFault.TheVariants.{Refused}
-use Rattle.formats.specs.Decode.{TwoByteSets, read_as, with_rest}
+use Rattle.formats.specs.Decode.{read_as, with_rest}
 use Rattle.formats.proofs.RoundTrip.{read_back}
 use Rattle.formats.proofs.make.make.Goals as goal
 

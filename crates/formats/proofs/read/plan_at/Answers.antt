@@ -1,9 +1,7 @@
-use Rattle.std.proofs.Common.{◌≡◌, ◌+◌, ◌*◌, map, get_or, take, refl, ap, ◌∙◌}
+use Rattle.std.proofs.Common.{◌≡◌, ◌+◌, map, get_or, take, refl, ap, ◌∙◌}
 use native.Mathlib.Nat.{sub-zero}
 use Rattle.std.specs.List.{between}
 use Rattle.board.specs.Plans.{bits_of, planned}
-use Rattle.formats.specs.Decode.{size_at}
-use Rattle.formats.specs.Wire.{words}
 use Rattle.formats.proofs.Parts.{same_parts}
 use Rattle.formats.proofs.read.plan_at.Goals as goal
 

@@ -1,4 +1,4 @@
-use Rattle.std.proofs.Common.{◌≡◌, ℕ, ◌<◌, ◌≤◌, List, [], ◌++◌, length, drop, sym, refl, ap, ◌∙◌, subst, arith}
+use Rattle.std.proofs.Common.{◌≡◌, ℕ, ◌<◌, ◌≤◌, List, [], ◌++◌, length, drop, sym, ap, ◌∙◌, subst, arith}
 use Rattle.numbers.specs.declared.number.LineNo.{LineNo}
 use Rattle.board.specs.declared.plan.Plan.{Plan}
 use Rattle.board.specs.Ranks.{rank_bound}

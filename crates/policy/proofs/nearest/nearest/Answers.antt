@@ -1,4 +1,4 @@
-use Rattle.std.proofs.Common.{sym, subst, arith, rules}
+use Rattle.std.proofs.Common.{sym, subst, rules}
 use Rattle.policy.specs.Policies.{Exactly, StaysOrNearest}
 use Rattle.policy.specs.Staying.{stay_exactly}
 use Rattle.policy.proofs.nearest.nearest.Goals as goal

@@ -1,4 +1,4 @@
-use Rattle.std.proofs.Common.{◌≡◌, ℕ, ◌-◌, false, ltb, List, length, Ok, Err, Result, sym, refl, ap, ◌∙◌, arith}
+use Rattle.std.proofs.Common.{◌≡◌, ℕ, ◌-◌, false, ltb, List, length, Ok, Err, Result, sym, ap, ◌∙◌, arith}
 use Rattle.std.proofs.lemmas.Result.{err_from_is_err_and}
 use Rattle.std.proofs.lemmas.Bool.{cond-false, le-ltb}
 use Rattle.board.specs.Figure.{different_ranks, figure_of}
@@ -8,9 +8,8 @@ use Rattle.board.specs.Viewed.{parts}
 use Rattle.board.proofs.Ranking.{plan_ranked}
 use Rattle.formats.specs.declared.fault.PlanFault.{PlanFault}
 use Rattle.formats.specs.Decode.{decode}
-use Rattle.report.specs.declared.fault.ProgramFault.{ProgramFault}
 use Rattle.report.specs.declared.quote.Quote.{Quote}
-use Rattle.report.specs.Quotes.{of_reading, quote_of, quoted}
+use Rattle.report.specs.Quotes.{of_reading, quoted}
 use Rattle.report.proofs.quote.quote_input.Goals as goal
 
 -- input that is not too long is quoted as it reads

@@ -1,5 +1,4 @@
-use Rattle.std.proofs.Common.{◌≡◌, ℕ, true, false, map, length, sym, refl, ap, ◌∙◌, arith, rules}
-use Rattle.numbers.specs.Sets.{has}
+use Rattle.std.proofs.Common.{◌≡◌, ℕ, map, length, sym, ap, ◌∙◌, arith}
 use Rattle.board.specs.Plans.{bits_of}
 use Rattle.kernel.specs.Rules.{woken_below}
 use Rattle.system.proofs.Wakes.{woken_none, woken_more, woken_same, length_bits, get_bits}

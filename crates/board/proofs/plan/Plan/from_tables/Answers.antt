@@ -6,7 +6,7 @@ use Rattle.board.specs.declared.plan.Tables.{Tables}
 use Rattle.board.specs.declared.refusal.PlanRefusal.{PlanRefusal}
 use Rattle.board.specs.Kinds.{policy_number, rule_number}
 use Rattle.board.specs.Refusing.{checked}
-use Rattle.board.specs.Plans.{Parts, bits_of, count_tests, set_tests, planned}
+use Rattle.board.specs.Plans.{Parts, bits_of, count_tests, set_tests}
 use Rattle.board.specs.Viewed.{given, made}
 use Rattle.board.proofs.Refusing.{all_passed}
 use Rattle.board.proofs.Padding.{take_padded, padded_again, bits_padded, bits_again, get_or_padded}

@@ -1,4 +1,4 @@
-use Rattle.std.proofs.Common.{◌≡◌, ℕ, List, ◌++◌, length, get_or, take, drop, sym, refl, ap, ◌∙◌, subst, arith}
+use Rattle.std.proofs.Common.{◌≡◌, ℕ, List, ◌++◌, length, get_or, take, drop, refl, ap, ◌∙◌, subst, arith}
 use Rattle.board.specs.declared.plan.Plan.{Plan}
 use Rattle.board.specs.Viewed.{parts}
 use Rattle.kernel.specs.declared.call.Call.{Call}

@@ -1,4 +1,4 @@
-use Rattle.std.proofs.Common.{◌≡◌, length, sym, ap, ◌∙◌, arith}
+use Rattle.std.proofs.Common.{length, ap, arith}
 use Rattle.board.specs.Plans.{Parts}
 use Rattle.system.proofs.Wakes.{length_bits}
 use Rattle.system.proofs.state.State.advance.Goals as goal

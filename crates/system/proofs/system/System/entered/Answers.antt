@@ -1,6 +1,4 @@
-use Rattle.std.proofs.Common.{◌≡◌, ◌<◌, true, ltb, List, sym, subst, rules}
-use Rattle.numbers.specs.declared.number.LineNo.{LineNo}
-use Rattle.board.specs.Ranks.{rank_bound}
+use Rattle.std.proofs.Common.{◌≡◌, true, ltb, List, sym, subst, rules}
 use Rattle.board.specs.Viewed.{parts}
 use Rattle.kernel.specs.declared.routine.Routine.{Routine}
 use Rattle.kernel.specs.declared.routine.Routine.TheVariants.{Handler}
@@ -29,5 +27,5 @@ invariant_of-self c =
     record {
       stands =
           subst (λ (rs : List Routine). stacked rank n (Handler c.args.line) rs ≡ true) (sym c.push.ensures)
-              (over rank n c.args.line m.state.active (listed m.state.suspended) known lower m.stands);
+          (over rank n c.args.line m.state.active (listed m.state.suspended) known lower m.stands);
     }

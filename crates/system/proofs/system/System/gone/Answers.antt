@@ -1,4 +1,4 @@
-use Rattle.std.proofs.Common.{◌≡◌, ℕ, true, length, sym, ap, ◌∙◌, subst}
+use Rattle.std.proofs.Common.{◌≡◌, true, length, sym, ap, ◌∙◌, subst}
 use Rattle.board.specs.Viewed.{parts}
 use Rattle.kernel.specs.Rules.{lines}
 use Rattle.kernel.specs.States as rules
@@ -25,6 +25,6 @@ invariant_of-self g c =
     record {
       stands =
           subst (λ (w : rules.State). stacked rank (lines plan) w.active w.suspended ≡ true)
-              (sym (c.advance.ensures.state ∙ ap (λ (st : Standing). (go_at plan choose st v).0) c.standing-standing.ensures))
-              (go_keeps plan choose rank v m.stands);
+          (sym (c.advance.ensures.state ∙ ap (λ (st : Standing). (go_at plan choose st v).0) c.standing-standing.ensures))
+          (go_keeps plan choose rank v m.stands);
     }

@@ -25,6 +25,6 @@ invariant_of-self c =
     record {
       stands =
           subst (λ (w : rules.State). stacked rank n w.active w.suspended ≡ true) (sym c.start_delayed.ensures)
-              (subst (λ (rs : List Routine). stacked rank n Delayed rs ≡ true) (sym c.push.ensures)
-              (subst (λ (a : Routine). stacked rank n a (listed m.state.suspended) ≡ true) c.in-Task.is m.stands));
+          (subst (λ (rs : List Routine). stacked rank n Delayed rs ≡ true) (sym c.push.ensures)
+          (subst (λ (a : Routine). stacked rank n a (listed m.state.suspended) ≡ true) c.in-Task.is m.stands));
     }
