@@ -73,7 +73,7 @@ mod tests {
         text.number(0);
         text.word(" ");
         text.number(18_446_744_073_709_551_615);
-        assert!(rt; text.as_bytes() == b"rest 0 18446744073709551615");
+        assert!(rt; text.as_bytes() == b"rest 0 18446744073709551615".as_slice());
     }
 
     #[test]
