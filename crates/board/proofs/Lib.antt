@@ -4,3 +4,4 @@ pub mod Planning
 pub mod Counting
 pub mod Legality
 pub mod Ranking
+pub mod Chosen

@@ -1,3 +1,0 @@
-pub mod Machines
-pub mod Asked
-pub mod Applied

@@ -1,3 +1,0 @@
-// What the programs work out from their input, and the text that they print.
-pub mod fault;
-pub mod quote;
