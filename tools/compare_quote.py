@@ -401,12 +401,14 @@ def run(command, data):
         return None, b"not run, too many had no answer in time"
     try:
         done = subprocess.run(command, input=data, stdout=subprocess.PIPE,
-                              stderr=subprocess.DEVNULL, timeout=WAIT)
+                              stderr=subprocess.PIPE, timeout=WAIT)
     except subprocess.TimeoutExpired:
         LATE.append(data)
         return None, b"no answer in time"
     except OSError as trouble:
         return None, str(trouble).encode()
+    if done.stderr:
+        return None, b"on standard error: " + done.stderr
     return done.returncode, done.stdout
 
 

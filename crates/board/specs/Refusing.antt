@@ -1,5 +1,5 @@
 -- Refusals as a list of tests in their order: what each test finds wrong, if anything.
-use Rattle.std.specs.Prelude.{◌≡◌, ℕ, ◌<◌, Bool, true, false, List, [], ◌∷◌, get_or, Some, None, Ok, Err, Option, Result, slice_index_or}
+use Rattle.std.specs.Prelude.{◌≡◌, ℕ, ◌<◌, Bool, true, false, List, [], ◌∷◌, Some, None, Ok, Err, Option, Result, slice_index_or}
 
 -- a test that finds e where the condition fails
 abbrev pub needs : {E : Type 0} → Bool → E → Option E
@@ -27,5 +27,5 @@ checked tests = unless (first tests) (tt {0})
 -- e is found by some test, and no test before it finds anything
 pub record ComesFirst {E : Type 0} (tests : List (Option E)) (e : E) : Type 0 where
   pub place : ℕ
-  pub found : get_or tests place None ≡ Some e
+  pub found : slice_index_or tests place None ≡ Some e
   pub before : (earlier : ℕ) → earlier < place → slice_index_or tests earlier None ≡ None

@@ -10,11 +10,11 @@ use Rattle.formats.specs.Wire.{twos, words, word}
 double_suc : (i : ℕ) → 2 * suc i ≡ suc (suc (2 * i))
 double_suc i = omega arith
 
-pub get_d_words : (bs : List ℕ) (i : ℕ) → 2 * i + 1 < length bs → get_or (words bs) i 0 ≡ word bs (2 * i)
-get_d_words [] i h = absurd (omega arith)
-get_d_words (a ∷ []) i h = absurd (omega arith)
-get_d_words (a ∷ b ∷ bs) zero h = refl
-get_d_words (a ∷ b ∷ bs) (suc i) h = get_d_words bs i (omega arith) ∙ simp (double_suc, add-one)
+pub get_or_words : (bs : List ℕ) (i : ℕ) → 2 * i + 1 < length bs → get_or (words bs) i 0 ≡ word bs (2 * i)
+get_or_words [] i h = absurd (omega arith)
+get_or_words (a ∷ []) i h = absurd (omega arith)
+get_or_words (a ∷ b ∷ bs) zero h = refl
+get_or_words (a ∷ b ∷ bs) (suc i) h = get_or_words bs i (omega arith) ∙ simp (double_suc, add-one)
 
 pub length_words : (bs : List ℕ) (n : ℕ) → length bs ≡ 2 * n → length (words bs) ≡ n
 length_words [] n h = omega arith
@@ -69,7 +69,7 @@ module _ (bs : List ℕ) (all : List (Set TaskNo)) (n i : ℕ) (even : length bs
       ap (map bits_of) (take_more_set all i s (omega arith))
       ∙ (map-append bits_of (take i all) (s ∷ [])
       ∙ (ap (λ v. v ++ s.bits ∷ []) so_far
-      ∙ (ap (λ v. take i (words bs) ++ v ∷ []) (holds ∙ (is ∙ sym (get_d_words bs i (omega arith))))
+      ∙ (ap (λ v. take i (words bs) ++ v ∷ []) (holds ∙ (is ∙ sym (get_or_words bs i (omega arith))))
       ∙ sym (take_more (words bs) i 0 (omega arith)))))
 
   pub sets_all : n ≤ i → i ≤ n → map bits_of (take n all) ≡ words bs

@@ -1,5 +1,5 @@
 -- What bytes say when they are read as a plan.
-use Rattle.std.specs.Prelude.{◌≡◌, ℕ, ◌+◌, ◌<◌, ◌&&◌, List, [], ◌∷◌, ◌++◌, map, length, drop, Some, None, Ok, Err, Option, Result, ◌==◌, nat_le, slice_index, slice_index_or}
+use Rattle.std.specs.Prelude.{◌≡◌, ℕ, ◌+◌, ◌<◌, ◌&&◌, List, [], ◌∷◌, ◌++◌, map, length, drop, Some, None, Ok, Err, Option, Result, ◌==◌, nat_le, slice_index}
 use Rattle.std.specs.List.{between}
 use Rattle.board.specs.declared.plan.Plan.{Plan}
 use Rattle.board.specs.declared.refusal.PlanRefusal.{PlanRefusal}
@@ -21,8 +21,8 @@ size_at bs = size (slice_index bs 5) (slice_index bs 6) (slice_index bs 7)
 -- the parts that the bytes give
 abbrev pub parts_at : List ℕ → Parts
 parts_at bs =
-    let levels_at = 14 + slice_index_or bs 5 0 in
-    let wakes_at = levels_at + slice_index_or bs 6 0 in
+    let levels_at = 14 + slice_index bs 5 in
+    let wakes_at = levels_at + slice_index bs 6 in
     record {
       policy = slice_index bs 8;
       rule = slice_index bs 9;
