@@ -1,6 +1,11 @@
 -- How many different ranks some lines have, and how deep their handlers nest.
-use Rattle.std.proofs.Common.{◌≡◌, ℕ, zero, suc, ◌+◌, ◌-◌, ◌<◌, ◌≤◌, Bool, true, false, cond, not, ◌||◌, eqb, List, [], ◌∷◌, length, sym, refl, ap, ◌∙◌, subst, ⊎_elim, add-one, arith}
-use Rattle.std.proofs.lemmas.Bool.{cases_lt, cases_Bool, eqb-true, eq-eqb, ne_eqb, or_left, or_right, or_from, true≢false}
+use Rattle.std.proofs.Common.{◌≡◌, ℕ, zero, suc, ◌+◌, ◌-◌, ◌<◌, ◌≤◌, Bool, true, false, cond, not, ◌||◌, eqb, List, [], ◌∷◌, ◌++◌, length, filter, sym, refl, ap, ◌∙◌, subst, ⊎_elim, add-one, zero-add, arith}
+use Rattle.std.specs.Prelude.{◌==◌}
+use Rattle.std.specs.List.{list_any, range_with_len}
+use Rattle.std.proofs.lemmas.List.{length-append}
+use Rattle.std.proofs.lemmas.List.Elements.{filter-append}
+use Rattle.std.proofs.lemmas.List.Folds.{list_any-append}
+use Rattle.std.proofs.lemmas.Bool.{cases_lt, cases_Bool, eqb-true, eq-eqb, ne_eqb, or_left, or_right, true≢false}
 use Rattle.numbers.specs.declared.number.LineNo.{LineNo}
 use Rattle.board.specs.Figure.{some_line, how_many, first_of_its_rank, different_ranks, figure_of, Nested, OneMoreThanTheDeepestNest}
 
@@ -8,14 +13,6 @@ abbrev line : ℕ → LineNo
 line n = record { 0 = n }
 
 module _ (rank : LineNo → ℕ) (r : ℕ) where
-  pub no_line : some_line rank r 0 ≡ false
-  unfolding some_line
-  no_line = refl
-
-  pub no_line_more : (n : ℕ) → some_line rank r n ≡ false → (rank (line n) ≡ r → ⊥) → some_line rank r (n + 1) ≡ false
-  unfolding some_line
-  no_line_more n before other = rw add-one (or_from _ _ before (ne_eqb _ _ other))
-
   pub line_here : (n i : ℕ) → i < n → rank (line i) ≡ r → some_line rank r n ≡ true
   unfolding some_line
   line_here zero i l e = absurd (omega arith)
@@ -242,3 +239,28 @@ module _ (rank : LineNo → ℕ) (bound : ℕ) (bounded : (i : LineNo) → rank 
           deepest_nests = whole.1;
           met = omega (arith, whole.3, many_none (taken lines), by_ranks lines);
         }
+
+-- the numbers below n, and the definitions as a search through them and a count of them
+numbers_more : (from n : ℕ) → range_with_len from (suc n) ≡ range_with_len from n ++ (from + n) ∷ []
+numbers_more from zero = let e : from + 0 ≡ from = omega arith in rw e
+numbers_more from (suc n) = let e : from + 1 + n ≡ from + suc n = omega arith in ap (λ l. from ∷ l) (numbers_more (from + 1) n ∙ rw e)
+
+pub some_listed : (rank : LineNo → ℕ) (r n : ℕ) → some_line rank r n ≡ list_any (λ i. rank (record { 0 = i }) == r) (range_with_len 0 n)
+unfolding some_line
+some_listed rank r zero = refl
+some_listed rank r (suc n) =
+    let has = λ (i : ℕ). rank (record { 0 = i }) == r in
+    ap (λ b. b || has n) (some_listed rank r n)
+    ∙ sym (ap (list_any has) (numbers_more 0 n) ∙ (list_any-append has (range_with_len 0 n) ((0 + n) ∷ []) ∙ rw (zero-add n) (ap (λ b. list_any has (range_with_len 0 n) || b) (or_false (has n)))))
+
+pub many_listed : (p : ℕ → Bool) (n : ℕ) → how_many n p ≡ length (filter p (range_with_len 0 n))
+unfolding how_many
+many_listed p zero = refl
+many_listed p (suc n) =
+    ap (λ k. k + cond (p n) 1 0) (many_listed p n)
+    ∙ sym (ap (λ l. length (filter p l)) (numbers_more 0 n) ∙ (ap length (filter-append p (range_with_len 0 n) ((0 + n) ∷ []))
+    ∙ (length-append (filter p (range_with_len 0 n)) (filter p ((0 + n) ∷ [])) ∙ rw (zero-add n) (ap (λ k. length (filter p (range_with_len 0 n)) + k) (one (p n))))))
+  where
+    one : (b : Bool) → length (cond b (n ∷ []) []) ≡ cond b 1 0
+    one true = refl
+    one false = refl

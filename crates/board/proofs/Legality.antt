@@ -27,24 +27,24 @@ wakes_met t l e (w ∷ ws) h =
     met (WakeSet t l (record { 0 = e })) (within w t) _ (lt-ltb w (2 ^ t) (h 0)) (wakes_met t l (e + 1) ws (λ k. h (suc k)))
 
 module _ (p : Plan) where
-  tasks : length (parts p).priorities ≡ p.tasks
-  tasks = p.priorities_counted
+  tasks : length (parts p).priorities ≡ p.priorities.count
+  tasks = p.priorities_filled.counted
 
-  lines : length (parts p).levels ≡ p.lines
-  lines = p.levels_counted
+  lines : length (parts p).levels ≡ p.levels.count
+  lines = p.levels_filled.counted
 
-  events : length (parts p).wakes ≡ p.events
-  events = p.wakes_counted
+  events : length (parts p).wakes ≡ p.wakes.count
+  events = p.wakes_filled.counted
 
-  wake_small : (k : ℕ) → get_or (parts p).wakes k 0 < 2 ^ p.tasks
+  wake_small : (k : ℕ) → get_or (parts p).wakes k 0 < 2 ^ p.priorities.count
   wake_small k =
-      let e : get_or (parts p).wakes k 0 ≡ get_or (map bits_of p.wakes) k 0 =
-      sym (get_or_padded (parts p).wakes _ k) ∙ ap (λ (v : List ℕ). get_or v k 0) p.no_more_wakes in
-      subst (λ v. v < 2 ^ p.tasks) (sym e) (p.known_wakes k)
+      let e : get_or (parts p).wakes k 0 ≡ get_or (map bits_of p.wakes.places) k 0 =
+      sym (get_or_padded (parts p).wakes _ k) ∙ ap (λ (v : List ℕ). get_or v k 0) p.wakes_filled.zeros_after in
+      subst (λ v. v < 2 ^ p.priorities.count) (sym e) (p.known_wakes k)
 
   sets_met : first (set_tests (parts p)) ≡ None
   sets_met =
-      let set : (s : ℕ) → s < 2 ^ p.tasks → within s (length (parts p).priorities) ≡ true =
+      let set : (s : ℕ) → s < 2 ^ p.priorities.count → within s (length (parts p).priorities) ≡ true =
       λ s low. lt-ltb s _ (subst (λ t. s < 2 ^ t) (sym tasks) low) in
       met StartSet _ _ (set p.start.bits p.known_start)
       (met FavouredSet _ _ (set p.favoured.bits p.known_favoured)
@@ -54,6 +54,6 @@ module _ (p : Plan) where
   pub plan_legal : planned (parts p) ≡ Ok (parts p)
   plan_legal =
       by_stages (parts p)
-      (counts_met _ _ _ (subst (λ t. 1 ≤ t) (sym tasks) p.some) (subst (λ t. t ≤ 16) (sym tasks) p.few_tasks)
-      (subst (λ t. t ≤ 16) (sym lines) p.few_lines) (subst (λ t. t ≤ 16) (sym events) p.few_events))
+      (counts_met _ _ _ (subst (λ t. 1 ≤ t) (sym tasks) p.some) (subst (λ t. t ≤ 16) (sym tasks) p.priorities_filled.few)
+      (subst (λ t. t ≤ 16) (sym lines) p.levels_filled.few) (subst (λ t. t ≤ 16) (sym events) p.wakes_filled.few))
       (policy_legal p.policy) (rule_legal p.rule) sets_met

@@ -1,38 +1,9 @@
 -- Tables of sixteen places.
-use Rattle.std.proofs.Common.{◌≡◌, ℕ, zero, suc, ◌+◌, ◌-◌, ◌<◌, ◌≤◌, List, [], ◌∷◌, ◌++◌, map, length, get_or, take, drop, set, replicate, sym, refl, ap, ◌∙◌, arith}
-use Rattle.std.proofs.lemmas.List.{append_assoc, map-append, length-map, length-take-le, set_at, take_all, take_at, take_more, drop_more, drop-replicate}
+use Rattle.std.proofs.Common.{◌≡◌, ℕ, zero, suc, ◌-◌, ◌<◌, ◌≤◌, List, [], ◌∷◌, ◌++◌, map, length, get_or, take, replicate, sym, refl, ap, ◌∙◌}
+use Rattle.std.proofs.lemmas.List.{map-append, length-map, take_at}
 use Rattle.numbers.specs.declared.number.TaskNo.{TaskNo}
 use Rattle.numbers.specs.declared.set.Set.{Set}
-use Rattle.board.specs.Plans.{bits_of, padded}
-
--- one more entry over what the places held before
-pub fill_more :
-    {A : Type 0} (entries before all : List A) (i : ℕ) (x : A) → i < length entries → length entries ≤ length before →
-    all ≡ take i entries ++ drop i before → x ≡ get_or entries i x →
-    set all i x ≡ take (i + 1) entries ++ drop (i + 1) before
-fill_more {A} entries before all i x low room so_far is =
-    let a : length (take i entries) ≡ i = length-take-le i entries (omega arith) in
-    let b : drop i before ≡ get_or before i x ∷ drop (i + 1) before = drop_more before i x (omega arith) in
-    let more : take (i + 1) entries ≡ take i entries ++ get_or entries i x ∷ [] = take_more entries i x low in
-    let s :
-    set (take i entries ++ get_or before i x ∷ drop (i + 1) before) i x ≡ take i entries ++ x ∷ drop (i + 1) before =
-    set_at (take i entries) (get_or before i x) (drop (i + 1) before) x i a in
-    let q :
-    (take i entries ++ get_or entries i x ∷ []) ++ drop (i + 1) before
-    ≡ take i entries ++ get_or entries i x ∷ drop (i + 1) before =
-    append_assoc (take i entries) (get_or entries i x ∷ []) (drop (i + 1) before) in
-    ap (λ v. set v i x) (so_far ∙ ap (λ v. take i entries ++ v) b)
-    ∙ (s
-    ∙ (ap (λ v. take i entries ++ v ∷ drop (i + 1) before) is ∙ (sym q ∙ ap (λ v. v ++ drop (i + 1) before) (sym more))))
-
-pub fill_all :
-    {A : Type 0} (entries all : List A) (i : ℕ) (z : A) → length entries ≤ i → i ≤ length entries →
-    all ≡ take i entries ++ drop i (replicate 16 z) → all ≡ padded z entries
-fill_all entries all i z end within so_far =
-    let e : i ≡ length entries = omega arith in
-    so_far
-    ∙ (ap (λ v. v ++ drop i (replicate 16 z)) (take_all i entries end)
-    ∙ (ap (λ v. entries ++ v) (drop-replicate i 16 z) ∙ ap (λ n. entries ++ replicate (16 - n) z) e))
+use Rattle.board.specs.Plans.{Filled, bits_of, padded}
 
 pub take_padded : {A : Type 0} (z : A) (xs all : List A) → all ≡ padded z xs → take (length xs) all ≡ xs
 take_padded z xs all e = ap (take (length xs)) e ∙ take_at xs _ (length xs) refl
@@ -61,10 +32,26 @@ get_or_padded [] n k = get_or_zeros n k
 get_or_padded (x ∷ xs) n zero = refl
 get_or_padded (x ∷ xs) n (suc k) = get_or_padded xs n k
 
--- sets
+-- a table that holds some numbers
+pub filled :
+    (xs all : List ℕ) (count : ℕ) → count ≡ length xs → length xs ≤ 16 → all ≡ padded 0 xs → Filled count (take count all) all
+filled xs all count is few e =
+    rw is (record { few = few; counted = ap length (take_padded 0 xs all e); zeros_after = padded_again 0 xs all e })
+
+-- a table that holds some sets
 module _ (ws all : List (Set TaskNo)) (z : Set TaskNo) (empty : z.bits ≡ 0) (e : all ≡ padded z ws) where
   pub bits_padded : map bits_of all ≡ padded 0 (map bits_of ws)
   bits_padded = ap (map bits_of) e ∙ (map_padded bits_of z ws ∙ ap (λ v. padded v (map bits_of ws)) empty)
 
-  pub bits_again : padded 0 (map bits_of (take (length ws) all)) ≡ map bits_of all
-  bits_again = ap (λ v. padded 0 (map bits_of v)) (take_padded z ws all e) ∙ sym bits_padded
+  pub sets_filled : (count : ℕ) → count ≡ length ws → length ws ≤ 16 → Filled count (map bits_of (take count all)) (map bits_of all)
+  sets_filled count is few =
+      rw is
+      (record {
+        few = few;
+        counted = ap (λ v. length (map bits_of v)) (take_padded z ws all e) ∙ length-map ws bits_of;
+        zeros_after = ap (λ v. padded 0 (map bits_of v)) (take_padded z ws all e) ∙ sym bits_padded;
+      })
+
+  -- the places after the sets hold none
+  pub places_known : (t : ℕ) → ((k : ℕ) → get_or (map bits_of ws) k 0 < t) → (k : ℕ) → get_or (map bits_of all) k 0 < t
+  places_known t low k = rw bits_padded (rw (get_or_padded (map bits_of ws) (16 - length (map bits_of ws)) k) (low k))

@@ -1,7 +1,9 @@
 -- A plan made from tables, stage by stage.
-use Rattle.std.proofs.Common.{◌≡◌, ℕ, zero, suc, ◌+◌, ◌^◌, ◌<◌, ◌≤◌, Bool, true, false, cond, ◌&&◌, eqb, leb, List, [], ◌∷◌, ◌++◌, map, length, get_or, drop, Some, None, Ok, Err, Option, Result, sym, refl, ap, ◌∙◌, subst, ⊎_elim, arith, pow_pos}
-use Rattle.std.proofs.lemmas.Bool.{cases_lt, eqb-false, eqb-true, lt-leb, ltb-true, leb-true, and_parts}
-use Rattle.std.proofs.lemmas.List.{drop_all, drop_more}
+use Rattle.std.proofs.Common.{◌≡◌, ℕ, zero, suc, ◌+◌, ◌^◌, ◌<◌, ◌≤◌, Bool, true, false, not, cond, ◌&&◌, eqb, leb, List, [], ◌∷◌, ◌++◌, map, length, get_or, Some, None, Ok, Err, Option, Result, sym, refl, ap, ◌∙◌, subst, arith, pow_pos}
+use Rattle.std.proofs.lemmas.Bool.{eqb-true, ltb-true, leb-true, and_parts}
+use Rattle.std.specs.List.{position_from}
+use Rattle.std.specs.Prelude.{option_map, position}
+use Rattle.std.proofs.lemmas.Iterator.Adapters.{position_from-zero}
 use Rattle.board.specs.declared.kinds.PolicyKind.{PolicyKind}
 use Rattle.board.specs.declared.kinds.PolicyKind.TheVariants.{Priority, Stay, Shared}
 use Rattle.board.specs.declared.kinds.RankRule.{RankRule}
@@ -13,7 +15,7 @@ use Rattle.board.specs.declared.refusal.PlanRefusal.TheVariants.{TaskCount, Line
 use Rattle.board.specs.Kinds.{policy_number, policy_from, rule_number, rule_from}
 use Rattle.board.specs.Refusing.{needs, or_else, first, unless, checked}
 use Rattle.board.specs.Plans.{Parts, bits_of, count_tests, number_tests, within, wake_tests, set_tests, planned}
-use Rattle.board.proofs.Refusing.{first_append, all_passed, first_failed, needs_met}
+use Rattle.board.proofs.Refusing.{first_append, all_passed, needs_met}
 
 -- the numbers of policies and rules
 abbrev pub policy_test : ℕ → Option PlanRefusal
@@ -55,29 +57,6 @@ module _ {A E : Type 0} (x y z : A) (d : E) where
       (λ t e. let same : k ≡ z = cc in ap number same ∙ (is_z ∙ sym (eqb-true n 3 t)))
       (λ a b c e. let z : ◌≡◌ {A = ℕ} 0 1 = cc in absurd (omega arith))
 
-  outside : (n : ℕ) → (n ≡ 1 → ⊥) → (n ≡ 2 → ⊥) → (n ≡ 3 → ⊥) → (leb 1 n && leb n 3) ≡ false
-  outside n a b c =
-      ⊎_elim
-      (λ (least : n < 1). ap (λ v. v && leb n 3) (lt-leb 1 n least))
-      (λ (some : 1 ≤ n).
-      let high : 3 < n = omega arith in
-      ap (λ v. leb 1 n && v) (lt-leb n 3 high) ∙ and_false (leb 1 n))
-      (cases_lt n 1)
-    where
-      and_false : (v : Bool) → (v && false) ≡ false
-      and_false true = refl
-      and_false false = refl
-
-  number_unknown : (n : ℕ) (e : E) → Err e ≡ numbered n → needs (leb 1 n && leb n 3) d ≡ Some e
-  number_unknown n e =
-      by_tests (eqb n 1) (eqb n 2) (eqb n 3) (λ r. Err e ≡ r → needs (leb 1 n && leb n 3) d ≡ Some e)
-      (λ t h. let z : ◌≡◌ {A = ℕ} 0 1 = cc in absurd (omega arith))
-      (λ t h. let z : ◌≡◌ {A = ℕ} 0 1 = cc in absurd (omega arith))
-      (λ t h. let z : ◌≡◌ {A = ℕ} 0 1 = cc in absurd (omega arith))
-      (λ a b c h.
-      let same : d ≡ e = cc in
-      ap (λ v. needs v d) (outside n (eqb-false n 1 a) (eqb-false n 2 b) (eqb-false n 3 c)) ∙ ap Some same)
-
 pub policy_back : (n : ℕ) (k : PolicyKind) → Ok k ≡ policy_from n → policy_number k ≡ n
 policy_back n k h = number_known Priority Stay Shared PolicyNumber n policy_number refl refl refl k h
 
@@ -89,12 +68,6 @@ policy_known n k h = subst (λ m. policy_test m ≡ None) (policy_back n k h) (p
 
 rule_known : (n : ℕ) (k : RankRule) → Ok k ≡ rule_from n → rule_test n ≡ None
 rule_known n k h = subst (λ m. rule_test m ≡ None) (rule_back n k h) (rule_legal k)
-
-policy_unknown : (n : ℕ) (e : PlanRefusal) → Err e ≡ policy_from n → policy_test n ≡ Some e
-policy_unknown n e h = number_unknown Priority Stay Shared PolicyNumber n e h
-
-rule_unknown : (n : ℕ) (e : PlanRefusal) → Err e ≡ rule_from n → rule_test n ≡ Some e
-rule_unknown n e h = number_unknown By32 By64 Flat RuleNumber n e h
 
 -- the stages of a plan's tests
 module _ (p : Parts) where
@@ -110,31 +83,11 @@ module _ (p : Parts) where
       planned p ≡ unless (or_else a (or_else b (or_else c d))) p
   by_stages ha hb hc hd = rw (← ha, ← hb, ← hc, ← hd) stages
 
-  pub refused_by_counts : {e : PlanRefusal} → Err e ≡ checked counts → Err e ≡ planned p
-  refused_by_counts h = sym (by_stages (first_failed counts h) refl refl refl)
-
-  module _ {u : Unit {0}} (counted : Ok u ≡ checked counts) where
-    pub refused_by_policy : {e : PlanRefusal} → Err e ≡ policy_from p.policy → Err e ≡ planned p
-    refused_by_policy {e} h = sym (by_stages (all_passed counts counted) (policy_unknown p.policy e h) refl refl)
-
-    module _ {k : PolicyKind} (policy : Ok k ≡ policy_from p.policy) where
-      pub refused_by_rule : {e : PlanRefusal} → Err e ≡ rule_from p.rule → Err e ≡ planned p
-      refused_by_rule {e} h =
-          sym
-          (by_stages (all_passed counts counted) (policy_known p.policy k policy) (rule_unknown p.rule e h) refl)
-
-      module _ {r : RankRule} (rule : Ok r ≡ rule_from p.rule) where
-        pub refused_by_sets : {e : PlanRefusal} → Err e ≡ checked (set_tests p) → Err e ≡ planned p
-        refused_by_sets h =
-            sym
-            (by_stages (all_passed counts counted) (policy_known p.policy k policy) (rule_known p.rule r rule)
-            (first_failed (set_tests p) h))
-
-        pub accepted : {v : Unit {0}} → Ok v ≡ checked (set_tests p) → Ok p ≡ planned p
-        accepted h =
-            sym
-            (by_stages (all_passed counts counted) (policy_known p.policy k policy) (rule_known p.rule r rule)
-            (all_passed (set_tests p) h))
+  pub accepted :
+      {k : PolicyKind} {r : RankRule} {v : Unit {0}} → first counts ≡ None → Ok k ≡ policy_from p.policy → Ok r ≡ rule_from p.rule →
+      Ok v ≡ checked (set_tests p) → Ok p ≡ planned p
+  accepted {k} {r} passed policy rule sets =
+      sym (by_stages passed (policy_known p.policy k policy) (rule_known p.rule r rule) (all_passed (set_tests p) sets))
 
 -- with counts and numbers passed, the sets are left
 pub planned_by_sets :
@@ -186,27 +139,34 @@ sets_known p h =
       wakes_known t (length p.levels) 0 p.wakes b.1,
     )
 
--- a loop over the wake sets
-module _ (t l : ℕ) (ws : List (Set TaskNo)) (e i : ℕ) where
-  abbrev entry : Set TaskNo
-  entry = get_or ws i (record { bits = 0; kind = record {} })
+-- the tests of the wake sets by the place of the first set that holds a task that the plan lacks
+module _ (t l : ℕ) where
+  abbrev pub lacks : Set TaskNo → Bool
+  lacks s = not (within s.bits t)
 
-  -- what is found from here on, where the entry's own test comes out as b
-  abbrev from : Bool → Option PlanRefusal
-  from b = or_else (needs b (WakeSet t l (record { 0 = e }))) (first (wake_tests t l (e + 1) (map bits_of (drop (i + 1) ws))))
+  abbrev pub wake_at : ℕ → PlanRefusal
+  wake_at event = WakeSet t l (record { 0 = event })
 
-  wakes_from : i < length ws → first (wake_tests t l e (map bits_of (drop i ws))) ≡ from (within entry.bits t)
-  wakes_from low = ap (λ v. first (wake_tests t l e (map bits_of v))) (drop_more ws i (record { bits = 0; kind = record {} }) low)
+  pub wakes_searched :
+      (event : ℕ) (ws : List (Set TaskNo)) →
+      first (wake_tests t l event (map bits_of ws)) ≡ option_map wake_at (position_from lacks event ws)
+  wakes_searched event [] = refl
+  wakes_searched event (w ∷ ws) = by_test (within w.bits t) _ (wakes_searched (event + 1) ws)
+    where
+      by_test :
+          (b : Bool) {found : Option PlanRefusal} (place : Option ℕ) → found ≡ option_map wake_at place →
+          or_else (needs b (wake_at event)) found ≡ option_map wake_at (cond (not b) (Some event) place)
+      by_test true place later = later
+      by_test false place later = refl
 
-  pub wakes_good :
-      i < length ws → true ≡ within entry.bits t →
-      first (wake_tests t l e (map bits_of (drop i ws))) ≡ first (wake_tests t l (e + 1) (map bits_of (drop (i + 1) ws)))
-  wakes_good low h = wakes_from low ∙ ap from (sym h)
-
-  pub wakes_bad :
-      i < length ws → false ≡ within entry.bits t →
-      first (wake_tests t l e (map bits_of (drop i ws))) ≡ Some (WakeSet t l (record { 0 = e }))
-  wakes_bad low h = wakes_from low ∙ ap from (sym h)
-
-  pub wakes_end : length ws ≤ i → first (wake_tests t l e (map bits_of (drop i ws))) ≡ None
-  wakes_end h = ap (λ v. first (wake_tests t l e (map bits_of v))) (drop_all i ws h)
+-- with the start set and the favoured set passed, the place of that wake set decides
+pub sets_searched :
+    (p : Parts) (t l : ℕ) (ws : List (Set TaskNo)) → t ≡ length p.priorities → l ≡ length p.levels → map bits_of ws ≡ p.wakes →
+    true ≡ within p.start t → true ≡ within p.favoured t →
+    (place : Option ℕ) → place ≡ position (lacks t l) ws → unless (option_map (wake_at t l) place) (tt {0}) ≡ checked (set_tests p)
+sets_searched p t l ws tasks lines sets start favoured place is =
+    ap (λ f. unless f (tt {0}))
+    (ap (option_map (wake_at t l)) (is ∙ position_from-zero (lacks t l) ws)
+    ∙ (sym (wakes_searched t l 0 ws)
+    ∙ (ap (λ v. first (wake_tests t l 0 v)) sets
+    ∙ rw (tasks, lines) (rw (← (rw tasks at start), ← (rw tasks at favoured)) refl))))

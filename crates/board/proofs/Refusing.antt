@@ -25,20 +25,26 @@ module _ {E : Type 0} where
       earlier_none c zero l = refl
       earlier_none c (suc k) l = c.before k (omega arith)
 
-  found_nothing : {u : Unit {0}} (found : Option E) → Ok u ≡ unless found (tt {0}) → found ≡ None
-  found_nothing None h = refl
-  found_nothing {u} (Some e) h = let z : ◌≡◌ {A = ℕ} 0 1 = cc in absurd (omega arith)
+  -- what an answer says of what was found
+  module _ {A : Type 0} (a : A) where
+    pub found_nothing : {b : A} (found : Option E) → Ok b ≡ unless found a → found ≡ None
+    found_nothing None h = refl
+    found_nothing {b} (Some e) h = let z : ◌≡◌ {A = ℕ} 0 1 = cc in absurd (omega arith)
 
-  found_this : {e : E} (found : Option E) → Err e ≡ unless found (tt {0}) → found ≡ Some e
-  found_this {e} None h = let z : ◌≡◌ {A = ℕ} 0 1 = cc in absurd (omega arith)
-  found_this {e} (Some x) h = cc
+    pub answered : {b : A} (found : Option E) → Ok b ≡ unless found a → b ≡ a
+    answered None h = cc
+    answered {b} (Some e) h = let z : ◌≡◌ {A = ℕ} 0 1 = cc in absurd (omega arith)
+
+    pub found_this : {e : E} (found : Option E) → Err e ≡ unless found a → found ≡ Some e
+    found_this {e} None h = let z : ◌≡◌ {A = ℕ} 0 1 = cc in absurd (omega arith)
+    found_this {e} (Some x) h = cc
 
   module _ (tests : List (Option E)) where
     pub all_passed : {u : Unit {0}} → Ok u ≡ checked tests → first tests ≡ None
-    all_passed h = found_nothing (first tests) h
+    all_passed h = found_nothing (tt {0}) (first tests) h
 
     pub first_failed : {e : E} → Err e ≡ checked tests → first tests ≡ Some e
-    first_failed h = found_this (first tests) h
+    first_failed h = found_this (tt {0}) (first tests) h
 
 -- what a test that needs a condition says
 pub needs_met : {E : Type 0} (e : E) (b : Bool) → needs b e ≡ None → b ≡ true

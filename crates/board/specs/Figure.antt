@@ -1,5 +1,5 @@
 -- How many routines interrupts can suspend at once.
-use Rattle.std.specs.Prelude.{◌≡◌, ℕ, zero, suc, ◌+◌, ◌<◌, Bool, false, cond, not, ◌||◌, List, [], ◌∷◌, length, ◌==◌}
+use Rattle.std.specs.Prelude.{◌≡◌, ℕ, zero, suc, ◌+◌, ◌<◌, Bool, false, not, ◌||◌, List, [], ◌∷◌, length, ◌==◌, if◌then◌else◌}
 use Rattle.numbers.specs.declared.number.LineNo.{LineNo}
 
 -- whether one of the first n lines has the rank r
@@ -10,7 +10,7 @@ some_line rank r (suc n) = some_line rank r n || rank (record { 0 = n }) == r
 -- how many of the numbers below n pass a test
 unfoldable pub how_many : ℕ → (ℕ → Bool) → ℕ
 how_many zero p = 0
-how_many (suc n) p = how_many n p + cond (p n) 1 0
+how_many (suc n) p = how_many n p + (if p n then 1 else 0)
 
 -- whether no line before line i has its rank
 abbrev pub first_of_its_rank : (LineNo → ℕ) → ℕ → Bool

@@ -1,5 +1,5 @@
 -- The numbers of the policies and of the nesting rules.
-use Rattle.std.specs.Prelude.{ℕ, cond, Ok, Err, Result, ◌==◌}
+use Rattle.std.specs.Prelude.{ℕ, Ok, Err, Result, ◌==◌, if◌then◌else◌}
 use Rattle.board.specs.declared.kinds.PolicyKind.{PolicyKind}
 use Rattle.board.specs.declared.kinds.PolicyKind.TheVariants.{Priority, Stay, Shared}
 use Rattle.board.specs.declared.kinds.RankRule.{RankRule}
@@ -18,7 +18,7 @@ rule_number By64 = 2
 rule_number Flat = 3
 
 abbrev pub policy_from : ℕ → Result PolicyKind PlanRefusal
-policy_from n = cond (n == 1) (Ok Priority) (cond (n == 2) (Ok Stay) (cond (n == 3) (Ok Shared) (Err PolicyNumber)))
+policy_from n = if n == 1 then Ok Priority else if n == 2 then Ok Stay else if n == 3 then Ok Shared else Err PolicyNumber
 
 abbrev pub rule_from : ℕ → Result RankRule PlanRefusal
-rule_from n = cond (n == 1) (Ok By32) (cond (n == 2) (Ok By64) (cond (n == 3) (Ok Flat) (Err RuleNumber)))
+rule_from n = if n == 1 then Ok By32 else if n == 2 then Ok By64 else if n == 3 then Ok Flat else Err RuleNumber

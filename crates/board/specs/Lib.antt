@@ -5,4 +5,4 @@ pub mod Viewed
 pub mod Ranks
 pub mod Figure
 pub mod Planned
-pub mod PlanPolicyPolicyLemmas
+pub mod Choosing

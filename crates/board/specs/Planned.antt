@@ -1,5 +1,5 @@
 -- What the policy that a plan names chooses.
-use Rattle.std.specs.Prelude.{ℕ, cond, List, Option, ◌==◌}
+use Rattle.std.specs.Prelude.{ℕ, List, Option, ◌==◌, if◌then◌else◌}
 use Rattle.numbers.specs.declared.number.TaskNo.{TaskNo}
 use Rattle.board.specs.declared.kinds.PolicyKind.{PolicyKind}
 use Rattle.board.specs.declared.kinds.PolicyKind.TheVariants.{Priority, Stay, Shared}
@@ -14,7 +14,7 @@ chosen_by Shared ps s c = share ps s c
 
 -- the same by the policy's number: 1 priority, 2 stay, 3 shared
 abbrev pub chosen_numbered : ℕ → List ℕ → ℕ → TaskNo → Option TaskNo
-chosen_numbered policy ps s c = cond (policy == 1) (by_priority ps s) (cond (policy == 2) (stay s c) (share ps s c))
+chosen_numbered policy ps s c = if policy == 1 then by_priority ps s else if policy == 2 then stay s c else share ps s c
 
 -- what a plan's policy chooses, under its favoured group; a task that the plan lacks has priority 0
 abbrev pub plan_choice : Parts → ℕ → TaskNo → Option TaskNo

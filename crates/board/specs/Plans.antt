@@ -1,5 +1,5 @@
 -- What a plan says, and when tables are a plan.
-use Rattle.std.specs.Prelude.{ℕ, ◌+◌, ◌-◌, ◌^◌, Bool, ◌&&◌, List, [], ◌∷◌, ◌++◌, length, replicate, Option, Result, nat_le, nat_lt}
+use Rattle.std.specs.Prelude.{◌≡◌, ℕ, ◌+◌, ◌-◌, ◌^◌, ◌≤◌, Bool, ◌&&◌, List, [], ◌∷◌, ◌++◌, length, replicate, Option, Result, nat_le, nat_lt}
 use Rattle.numbers.specs.declared.number.TaskNo.{TaskNo}
 use Rattle.numbers.specs.declared.set.Set.{Set}
 use Rattle.board.specs.declared.refusal.PlanRefusal.{PlanRefusal}
@@ -59,3 +59,9 @@ bits_of s = s.bits
 -- sixteen places, the entries first and z after them
 abbrev pub padded : {A : Type 0} → A → List A → List A
 padded z xs = xs ++ replicate (16 - length xs) z
+
+-- sixteen places that hold these entries, as many as counted, and zeros after them
+pub record Filled (count : ℕ) (entries places : List ℕ) : Type 0 where
+  pub few : count ≤ 16
+  pub counted : length entries ≡ count
+  pub zeros_after : padded 0 entries ≡ places

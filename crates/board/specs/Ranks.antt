@@ -1,5 +1,5 @@
 -- The rank of a line: 0 is the most urgent.
-use Rattle.std.specs.Prelude.{ℕ, ◌/◌, cond, List, ◌==◌, slice_index}
+use Rattle.std.specs.Prelude.{ℕ, ◌/◌, List, ◌==◌, if◌then◌else◌, slice_index}
 use Rattle.numbers.specs.declared.number.LineNo.{LineNo}
 use Rattle.board.specs.declared.kinds.RankRule.{RankRule}
 use Rattle.board.specs.declared.kinds.RankRule.TheVariants.{By32, By64, Flat}
@@ -21,7 +21,7 @@ rank_by rule levels line = rank_at rule (slice_index levels line.0)
 
 -- the same by the rule's number: 1 divides by 32, 2 by 64, 3 gives rank 0
 abbrev pub rank_numbered : ℕ → ℕ → ℕ
-rank_numbered rule level = cond (rule == 1) (level / 32) (cond (rule == 2) (level / 64) 0)
+rank_numbered rule level = if rule == 1 then level / 32 else if rule == 2 then level / 64 else 0
 
 -- the rank of a line of a plan; a line that the plan lacks counts as level 0
 abbrev pub plan_rank : Parts → LineNo → ℕ

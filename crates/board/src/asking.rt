@@ -16,9 +16,9 @@ impl Plan {
         ensures { Counted (parts self.now) result }
     {
         Counts {
-            tasks: self.tasks,
-            lines: self.lines,
-            events: self.events,
+            tasks: self.priorities.count,
+            lines: self.levels.count,
+            events: self.wakes.count,
         }
     }
 
@@ -26,17 +26,14 @@ impl Plan {
     pub fn tables(&self) -> Tables<'_>
         ensures { given result ≡ parts self.now }
     {
-        let priorities = &self.priorities;
-        let levels = &self.levels;
-        let wakes = &self.wakes;
         Tables {
             policy: self.policy as u8,
             rule: self.rule as u8,
             start: self.start,
             favoured: self.favoured,
-            priorities: &priorities[0..self.tasks as usize],
-            levels: &levels[0..self.lines as usize],
-            wakes: &wakes[0..self.events as usize],
+            priorities: self.priorities.entries(),
+            levels: self.levels.entries(),
+            wakes: self.wakes.entries(),
         }
     }
 
@@ -51,7 +48,7 @@ impl Plan {
             below: PlanPolicy {
                 kind: self.policy,
                 priorities: Priorities {
-                    of: self.priorities,
+                    of: self.priorities.places,
                 },
             },
         }
@@ -64,7 +61,7 @@ impl Plan {
     {
         LevelNesting {
             rule: self.rule,
-            levels: Levels::new(self.levels),
+            levels: Levels::new(self.levels.places),
         }
     }
 }

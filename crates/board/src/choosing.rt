@@ -2,8 +2,8 @@
 ghost use Rattle.std.specs.Prelude.{◌≡◌};
 ghost use Rattle.board.specs.Planned.{chosen_by};
 ghost use Rattle.policy.specs.Staying.{answered_empty, answered_member};
-ghost use Rattle.board.specs.PlanPolicyPolicyLemmas.{answers};
-ghost use Rattle.board.specs.PlanPolicyPolicyLemmas;
+ghost use Rattle.board.specs.Choosing.{answers};
+ghost use Rattle.board.specs.Choosing;
 
 use crate::kinds::PolicyKind;
 use numbers::number::TaskNo;
@@ -24,9 +24,10 @@ impl Policy for PlanPolicy {
 
     ghost member = { λ p s c small. answered_member s (chosen_by p.kind p.priorities.of s c) (answers p.kind p s c small) };
 
-    ghost settles = { λ p s c t small e. PlanPolicyPolicyLemmas.settles p.kind p.priorities.of s c t e };
+    ghost settles = { λ p s c t small e. Choosing.settles p.kind p.priorities.of s c t e };
 
     fn choose(&self, ready: Set<TaskNo>, current: TaskNo) -> Option<TaskNo> {
+        // The kinds are closed and the policy is copied, so a match and no `dyn`.
         let priorities = self.priorities;
         match self.kind {
             PolicyKind::Priority => Priority { priorities }.choose(ready, current),

@@ -11,35 +11,18 @@ use numbers::number::LineNo;
 fn some_line<R: NestingRule>(rule: &R, lines: u8, rank: u8) -> bool
     ensures { result ≡ some_line (R.NestingRule.ranked rule.now) rank lines }
 {
-    for i in 0..lines {
-        if rule.rank(LineNo(i)) == rank {
-            return true;
-        }
-    }
-    false
+    (0..lines).any(|i| rule.rank(LineNo(i)) == rank)
 }
 
 // How many different ranks the first lines have.
-fn ranks_of<R: NestingRule>(lines: u8, rule: &R) -> u8
+fn ranks_of<R: NestingRule>(rule: &R, lines: u8) -> u8
     ensures is { result ≡ different_ranks (R.NestingRule.ranked rule.now) lines }
     ensures few { result ≤ lines }
 {
-    let mut different = 0;
-    for i in 0..lines {
-        if !some_line(rule, i, rule.rank(LineNo(i))) {
-            different += 1;
-        }
-    }
-    different
-}
-
-// One more.
-fn figure_of<R: NestingRule>(lines: u8, rule: &R) -> u8
-    requires { lines ≤ 16 }
-    ensures is { result ≡ figure_of (R.NestingRule.ranked rule.now) lines }
-    ensures nests { OneMoreThanTheDeepestNest (R.NestingRule.ranked rule.now) lines result }
-{
-    1 + ranks_of(lines, rule)
+    let different = (0..lines)
+        .filter(|&i| !some_line(rule, i, rule.rank(LineNo(i))))
+        .count();
+    different as u8
 }
 
 // One more than the number of different ranks of the plan's lines.
@@ -47,5 +30,5 @@ pub fn figure<R: NestingRule>(plan: &Plan, rule: &R) -> u8
     ensures is { result ≡ figure_of (R.NestingRule.ranked rule.now) (length (parts plan.now).levels) }
     ensures nests { OneMoreThanTheDeepestNest (R.NestingRule.ranked rule.now) (length (parts plan.now).levels) result }
 {
-    figure_of(plan.lines, rule)
+    1 + ranks_of(rule, plan.levels.count)
 }

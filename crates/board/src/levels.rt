@@ -3,7 +3,8 @@ ghost use Rattle.std.specs.Prelude.{◌≡◌, ℕ, ◌<◌, slice_index};
 
 use numbers::number::LineNo;
 
-// By line number; 0 for a line that the plan lacks.
+// By line number; 0 for a line that the plan lacks. The priorities and the ranks are tables of types of their own, since
+// each has bounds of its own.
 #[derive(Clone, Copy)]
 pub struct Levels {
     of: [u8; 16],
@@ -20,10 +21,6 @@ impl Levels {
     pub(crate) fn at(&self, line: LineNo) -> u8
         ensures { result ≡ slice_index self.now.of line.0 }
     {
-        if line.0 < 16 {
-            self.of[line.0 as usize]
-        } else {
-            0
-        }
+        self.of.get(line.0 as usize).copied().unwrap_or(0)
     }
 }

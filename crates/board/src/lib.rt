@@ -10,3 +10,4 @@ pub mod making;
 pub mod nesting;
 pub mod plan;
 pub mod refusal;
+pub mod table;

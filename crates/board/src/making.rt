@@ -1,20 +1,21 @@
 // A plan from tables.
-ghost use Rattle.std.specs.Prelude.{◌≡◌, ℕ, ◌≤◌, ◌++◌, map, length};
+ghost use Rattle.std.specs.Prelude.{◌≡◌, ◌++◌};
 ghost use Rattle.board.specs.Refusing.{checked};
-ghost use Rattle.board.specs.Plans.{bits_of, count_tests, number_tests, padded as padding, planned, set_tests, wake_tests};
-ghost use Rattle.board.specs.Viewed.{given, made};
+ghost use Rattle.board.specs.Plans.{count_tests, number_tests, planned, set_tests};
+ghost use Rattle.board.specs.Viewed.{Counted, counted, given, made};
 
 use crate::kinds::{PolicyKind, RankRule};
-use crate::plan::{Plan, Tables};
+use crate::plan::{Counts, Plan, Tables};
 use crate::refusal::PlanRefusal;
+use crate::table::Table;
 use numbers::number::{EventNo, TaskNo};
 use numbers::set::Set;
 
-// The first count that is out of range is refused.
-fn check_counts(tasks: usize, lines: usize, events: usize) -> Result<(), PlanRefusal>
-    ensures { result ≡ checked (count_tests tasks lines events) }
+// The counts, or the refusal of the first that is out of range.
+fn check_counts(tasks: usize, lines: usize, events: usize) -> Result<Counts, PlanRefusal>
+    ensures { result ≡ counted tasks lines events }
 {
-    if tasks < 1 || tasks > 16 {
+    if !(1..=16).contains(&tasks) {
         return Err(PlanRefusal::TaskCount);
     }
     if lines > 16 {
@@ -23,69 +24,47 @@ fn check_counts(tasks: usize, lines: usize, events: usize) -> Result<(), PlanRef
     if events > 16 {
         return Err(PlanRefusal::EventCount);
     }
-    Ok(())
+    Ok(Counts {
+        tasks: tasks as u8,
+        lines: lines as u8,
+        events: events as u8,
+    })
 }
 
 // Refuses the first count that is out of range, and then a number that names no policy or no nesting rule.
-pub fn check_numbers(
-    tasks: u8,
-    lines: u8,
-    events: u8,
-    policy: u8,
-    rule: u8,
-) -> Result<(), PlanRefusal>
-    ensures { result ≡ checked (count_tests tasks lines events ++ number_tests policy rule) }
+pub fn check_numbers(counts: Counts, policy: u8, rule: u8) -> Result<(), PlanRefusal>
+    ensures { result ≡ checked (count_tests counts.tasks counts.lines counts.events ++ number_tests policy rule) }
 {
-    check_counts(tasks as usize, lines as usize, events as usize)?;
-    PolicyKind::from_number(policy)?;
-    RankRule::from_number(rule)?;
+    check_counts(
+        counts.tasks as usize,
+        counts.lines as usize,
+        counts.events as usize,
+    )?;
+    PolicyKind::try_from(policy)?;
+    RankRule::try_from(rule)?;
     Ok(())
 }
 
-fn check_wakes(tasks: u8, lines: u8, wakes: &[Set<TaskNo>]) -> Result<(), PlanRefusal>
-    requires { length wakes.now ≤ 16 }
-    ensures { result ≡ checked (wake_tests tasks lines 0 (map bits_of wakes.now)) }
-{
-    let mut event = 0;
-    for wake in wakes {
-        if !wake.within(tasks) {
-            return Err(PlanRefusal::WakeSet {
-                tasks,
-                lines,
-                event: EventNo(event),
-            });
-        }
-        event += 1;
-    }
-    Ok(())
-}
-
-fn check_sets(tables: &Tables) -> Result<(), PlanRefusal>
-    requires tasks { length tables.now.priorities.now ≤ 16 }
-    requires lines { length tables.now.levels.now ≤ 16 }
-    requires events { length tables.now.wakes.now ≤ 16 }
+// Refuses the first set that holds a task that the plan lacks.
+fn check_sets(tables: &Tables, counts: Counts) -> Result<(), PlanRefusal>
+    requires { Counted (given tables.now) counts }
     ensures { result ≡ checked (set_tests (given tables.now)) }
 {
-    let tasks = tables.priorities.len() as u8;
+    let Counts { tasks, lines, .. } = counts;
     if !tables.start.within(tasks) {
         return Err(PlanRefusal::StartSet);
     }
     if !tables.favoured.within(tasks) {
         return Err(PlanRefusal::FavouredSet);
     }
-    check_wakes(tasks, tables.levels.len() as u8, tables.wakes)
-}
-
-// Sixteen places, the entries first.
-fn padded<T: Copy>(entries: &[T], zero: T) -> [T; 16]
-    requires { length entries.now ≤ 16 }
-    ensures { result ≡ padding zero entries.now }
-{
-    let mut all = [zero; 16];
-    for (i, entry) in entries.iter().enumerate() {
-        all[i] = *entry;
+    match tables.wakes.iter().position(|wake| !wake.within(tasks)) {
+        Some(event) => Err(PlanRefusal::WakeSet {
+            tasks,
+            lines,
+            event: EventNo(event as u8),
+        }),
+        None => Ok(()),
     }
-    all
 }
 
 impl Plan {
@@ -93,25 +72,22 @@ impl Plan {
     pub fn from_tables(tables: &Tables) -> Result<Plan, PlanRefusal>
         ensures { made result ≡ planned (given tables.now) }
     {
-        check_counts(
+        let counts = check_counts(
             tables.priorities.len(),
             tables.levels.len(),
             tables.wakes.len(),
         )?;
-        let policy = PolicyKind::from_number(tables.policy)?;
-        let rule = RankRule::from_number(tables.rule)?;
-        check_sets(tables)?;
+        let policy = PolicyKind::try_from(tables.policy)?;
+        let rule = RankRule::try_from(tables.rule)?;
+        check_sets(tables, counts)?;
         Ok(Plan {
-            tasks: tables.priorities.len() as u8,
-            lines: tables.levels.len() as u8,
-            events: tables.wakes.len() as u8,
             policy,
             rule,
             start: tables.start,
             favoured: tables.favoured,
-            priorities: padded(tables.priorities, 0),
-            levels: padded(tables.levels, 0),
-            wakes: padded(tables.wakes, Set::from_bits(0)),
+            priorities: Table::new(tables.priorities, 0),
+            levels: Table::new(tables.levels, 0),
+            wakes: Table::new(tables.wakes, Set::from_bits(0)),
         })
     }
 }

@@ -32,6 +32,7 @@ impl NestingRule for LevelNesting {
 
     fn rank(&self, line: LineNo) -> u8 {
         let level = self.levels.at(line);
+        // Three kinds of a line each: a closure for each would be made by this very match.
         match self.rule {
             RankRule::By32 => level / 32,
             RankRule::By64 => level / 64,

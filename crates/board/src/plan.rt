@@ -1,12 +1,14 @@
 // A board's plan: every value of `Plan` is a legal one.
 ghost use Rattle.std.specs.Prelude.{◌≡◌, ℕ, ◌^◌, ◌<◌, ◌≤◌, map, length, take, slice_index};
-ghost use Rattle.board.specs.Plans.{bits_of, padded};
+ghost use Rattle.board.specs.Plans.{Filled, bits_of};
 
 use crate::kinds::{PolicyKind, RankRule};
+use crate::table::Table;
 use numbers::number::TaskNo;
 use numbers::set::Set;
 
-// The tables that a plan is made from: an entry for each task, line and event.
+// The tables that a plan is made from: an entry for each task, line and event. The policy and the
+// nesting rule stand there by number, since tables from outside can hold one that names nothing.
 #[derive(Clone, Copy)]
 pub struct Tables<'a> {
     pub policy: u8,
@@ -19,37 +21,27 @@ pub struct Tables<'a> {
 }
 
 // How many tasks, lines and events a plan has.
-#[derive(Clone, Copy)]
+#[derive(Clone, Copy, Debug, PartialEq, Eq)]
 pub struct Counts {
     pub tasks: u8,
     pub lines: u8,
     pub events: u8,
 }
 
-// The arrays have the plan's entries first, and zeros and empty sets after them.
 #[derive(Clone, Copy)]
 pub struct Plan {
-    pub(crate) tasks: u8,
-    pub(crate) lines: u8,
-    pub(crate) events: u8,
     pub(crate) policy: PolicyKind,
     pub(crate) rule: RankRule,
     pub(crate) start: Set<TaskNo>,
     pub(crate) favoured: Set<TaskNo>,
-    pub(crate) priorities: [u8; 16],
-    pub(crate) levels: [u8; 16],
-    pub(crate) wakes: [Set<TaskNo>; 16],
-    ghost some: { 1 ≤ tasks },
-    ghost few_tasks: { tasks ≤ 16 },
-    ghost few_lines: { lines ≤ 16 },
-    ghost few_events: { events ≤ 16 },
-    ghost known_start: { start.bits < 2 ^ tasks },
-    ghost known_favoured: { favoured.bits < 2 ^ tasks },
-    ghost known_wakes: { (e : ℕ) → slice_index (map bits_of wakes) e < 2 ^ tasks },
-    ghost priorities_counted: { length (take tasks priorities) ≡ tasks },
-    ghost levels_counted: { length (take lines levels) ≡ lines },
-    ghost wakes_counted: { length (map bits_of (take events wakes)) ≡ events },
-    ghost no_more_priorities: { padded 0 (take tasks priorities) ≡ priorities },
-    ghost no_more_levels: { padded 0 (take lines levels) ≡ levels },
-    ghost no_more_wakes: { padded 0 (map bits_of (take events wakes)) ≡ map bits_of wakes },
+    pub(crate) priorities: Table<u8>,
+    pub(crate) levels: Table<u8>,
+    pub(crate) wakes: Table<Set<TaskNo>>,
+    ghost some: { 1 ≤ priorities.count },
+    ghost known_start: { start.bits < 2 ^ priorities.count },
+    ghost known_favoured: { favoured.bits < 2 ^ priorities.count },
+    ghost known_wakes: { (e : ℕ) → slice_index (map bits_of wakes.places) e < 2 ^ priorities.count },
+    ghost priorities_filled: { Filled priorities.count (take priorities.count priorities.places) priorities.places },
+    ghost levels_filled: { Filled levels.count (take levels.count levels.places) levels.places },
+    ghost wakes_filled: { Filled wakes.count (map bits_of (take wakes.count wakes.places)) (map bits_of wakes.places) },
 }

@@ -4,7 +4,7 @@
 mod shown;
 
 use board::refusal::PlanRefusal;
-use formats::fault::{PlanFault, Refusal};
+use formats::fault::{Layer, PlanFault, Refusal};
 use formats::read::read_plan;
 use numbers::number::EventNo;
 use report::fault::ProgramFault;
@@ -16,26 +16,22 @@ const BOARD: [u8; 19] = [
     0x50, 0x4C, 0x4E, 1, 0, 2, 1, 1, 1, 1, 1, 0, 0, 0, 10, 20, 64, 2, 0,
 ];
 
-// How reading is refused; number 0 where it isn't.
-fn refusal_of(bytes: &[u8]) -> Refusal {
-    let mut rest = bytes;
-    match read_plan(&mut rest) {
-        Ok(_) => Refusal {
-            number: 0,
-            place: rest.len(),
-            layer: 0,
-        },
-        Err(fault) => fault.refusal(),
-    }
+// How many bytes are left after the plan.
+fn left_after(bytes: &[u8]) -> Result<usize, PlanFault> {
+    let (_, rest) = read_plan(bytes)?;
+    Ok(rest.len())
 }
 
-// The board with bytes 5 and 10 as given.
+// The board with bytes 5 and 10 as given: the refusal's number and place, or 0 and how many bytes are left.
 fn show(rt: &impl Print, tasks: u8, start: u8) -> io::Result<()> {
     let mut bytes = BOARD;
     bytes[5] = tasks;
     bytes[10] = start;
-    let Refusal { number, place, .. } = refusal_of(&bytes);
-    println!(rt; "tasks {tasks} start {start} refused {number} {place}")
+    print!(rt; "tasks {tasks} start {start} refused ")?;
+    match left_after(&bytes).map_err(|fault| fault.refusal()) {
+        Ok(left) => println!(rt; "0 {left}"),
+        Err(Refusal { number, place, .. }) => println!(rt; "{number} {place}"),
+    }
 }
 
 // The lines by which programs tell faults.

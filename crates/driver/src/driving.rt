@@ -23,24 +23,27 @@ use runs::check::check_run;
 use runs::fault::RunFault;
 use runs::reader::RunReader;
 
-// Makes the calls of a run that was checked, and writes the two numbers of each.
+// Makes the calls of a run that was checked, and writes the two numbers of each: by place, since a proof knows nothing of
+// the bytes that a loop over `chunks_exact_mut` writes.
 fn answer_steps<P: Policy>(
     machine: &mut Machine<P>,
     run: &[u8],
+    count: usize,
     out: &mut [u8],
 ) -> Result<(), RunFault>
     requires good { first (run_tests run.now) ≡ None }
-    requires room { 2 * length (steps_in (drop 5 run.now)) ≤ length out.old }
+    requires steps { count ≡ length (steps_in (drop 5 run.now)) }
+    requires room { 2 * count ≤ length out.old }
     ensures fine { result ≡ Ok tt }
-    ensures out { out.new ≡ flat (answers (board_of machine.old) (P.Policy.chosen (policy_of machine.old)) (ranks_of machine.old) (map call_of (steps_in (drop 5 run.now))) (state_of machine.old)) ++ drop (2 * length (steps_in (drop 5 run.now))) out.old }
+    ensures out { out.new ≡ flat (answers (board_of machine.old) (P.Policy.chosen (policy_of machine.old)) (ranks_of machine.old) (map call_of (steps_in (drop 5 run.now))) (state_of machine.old)) ++ drop (2 * count) out.old }
 {
     let mut reader = RunReader::open(run)?;
-    let mut k = 0;
-    while let Some(call) = reader.next()? {
+    for k in 0..count {
+        let Some(call) = reader.next()? else {
+            return Ok(());
+        };
         let (answer, active) = machine.apply(call);
-        out[2 * k] = answer;
-        out[2 * k + 1] = active;
-        k += 1;
+        out[2 * k..2 * k + 2].copy_from_slice(&[answer, active]);
     }
     Ok(())
 }
@@ -62,18 +65,8 @@ fn drive_run<P: Policy + Drop, N: NestingRule>(
         return Err(DriveFault::Buffer(out.len()));
     }
     let mut machine = Machine::start(plan, policy, rule);
-    answer_steps(&mut machine, run, out)?;
+    answer_steps(&mut machine, run, count, out)?;
     Ok(count)
-}
-
-fn drive_bytes(bytes: &[u8], out: &mut [u8]) -> Result<usize, DriveFault>
-    ensures answer { left result out.new ≡ driven bytes.now out.old }
-    ensures kept { OnErr result (out.new ≡ out.old) }
-    ensures sound { OnOk result ((p : Parts) (rest : List ℕ) (calls : List Call) → decode bytes.now ≡ Ok (p, rest) → decode_run rest ≡ Ok calls → SoundRun p (plan_choice p) (plan_rank p) calls out.new) }
-{
-    let mut rest = bytes;
-    let plan = read_plan(&mut rest)?;
-    drive_run(plan, plan.policy(), &plan.nesting(), rest, out)
 }
 
 // Drives a plan through the run that follows it: writes the two numbers of each step as two bytes, and answers the
@@ -83,7 +76,8 @@ pub fn drive(bytes: &[u8], out: &mut [u8]) -> Result<usize, DriveFault>
     ensures kept { OnErr result (out.new ≡ out.old) }
     ensures sound { OnOk result ((p : Parts) (rest : List ℕ) (calls : List Call) → decode bytes.now ≡ Ok (p, rest) → decode_run rest ≡ Ok calls → SoundRun p (plan_choice p) (plan_rank p) calls out.new) }
 {
-    drive_bytes(bytes, out)
+    let (plan, rest) = read_plan(bytes)?;
+    drive_run(plan, plan.policy(), &plan.nesting(), rest, out)
 }
 
 #[cfg(test)]

@@ -3,17 +3,22 @@ ghost use Rattle.std.specs.Prelude.{◌≡◌};
 ghost use Rattle.driver.specs.declared.fault.DriveFault.TheVariants.{Plan, Run};
 ghost use Rattle.driver.specs.Faults.{drive_refusal};
 
-use formats::fault::{PlanFault, Refusal};
+use formats::fault::{Layer, PlanFault, Refusal};
 use runs::fault::RunFault;
+use thiserror::Error;
 
-#[derive(Clone, Copy, Debug)]
+#[derive(Clone, Copy, Debug, PartialEq, Eq, Error)]
 pub enum DriveFault {
+    #[error("{0}")]
     Plan(PlanFault),
+    #[error("{0}")]
     Run(RunFault),
-    // a buffer that is too short for the answers; with its length
+    // with the buffer's length
+    #[error("a buffer of {0} bytes is too short for the answers")]
     Buffer(usize),
 }
 
+// By hand, since clauses name what it gives, and a derived one has no contract.
 impl From<PlanFault> for DriveFault {
     ghost from_gives = { λ lower fault. fault ≡ Plan lower };
 
@@ -41,7 +46,7 @@ impl DriveFault {
             DriveFault::Buffer(length) => Refusal {
                 number: 10,
                 place: *length,
-                layer: 3,
+                layer: Layer::Drive,
             },
         }
     }

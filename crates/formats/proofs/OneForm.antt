@@ -1,23 +1,18 @@
 -- Bytes that read as a plan are that plan's form, followed by the rest.
-use Rattle.std.proofs.Common.{◌≡◌, ℕ, zero, suc, ◌+◌, ◌-◌, ◌*◌, ◌/◌, ◌%◌, ◌<◌, ◌≤◌, Bool, ◌&&◌, eqb, leb, List, [], ◌∷◌, ◌++◌, length, get_or, take, drop, Some, None, Ok, Option, sym, refl, ap, ◌∙◌, ⊎_elim, add-zero, arith}
+use Rattle.std.proofs.Common.{◌≡◌, ℕ, zero, suc, ◌+◌, ◌-◌, ◌*◌, ◌/◌, ◌%◌, ◌<◌, ◌≤◌, Bool, ◌&&◌, eqb, leb, List, [], ◌∷◌, ◌++◌, length, get_or, take, drop, None, Ok, sym, ap, ◌∙◌, ⊎_elim, add-zero, arith}
 use Rattle.std.proofs.lemmas.List.Edits.{length-between}
 use Rattle.std.proofs.lemmas.List.{append_assoc, drop-drop, drop_more, get_or-drop, get_or-take, get_or_past, length-take, take-append-drop}
 use Rattle.std.proofs.lemmas.Bool.{and_parts, cases_lt, eqb-true, leb-true}
 use Rattle.std.specs.List.{between}
 use Rattle.board.specs.Plans.{Parts}
-use Rattle.board.specs.Refusing.{needs, first, unless}
-use Rattle.board.proofs.Refusing.{needs_met}
+use Rattle.board.specs.Refusing.{needs, first}
+use Rattle.board.proofs.Refusing.{answered, found_nothing, needs_met}
 use Rattle.board.proofs.Planning.{or_else_none}
 use Rattle.formats.specs.declared.fault.PlanFault.TheVariants.{Short, Mark, Version}
 use Rattle.formats.specs.Decode.{Bytes, carried, size_at, parts_at, head_tests, byte_tests, decode}
 use Rattle.formats.specs.Wire.{encode, head, twos, words, word}
 use Rattle.formats.proofs.Stages.{stages, counts, numbers, long}
 use Rattle.formats.proofs.Words.{length_words, low_byte, high_byte, twos_words}
-
--- what an accepted reading says
-unless_ok : {A E : Type 0} (found : Option E) (a b : A) → unless found a ≡ Ok b → (found ≡ None) × (b ≡ a)
-unless_ok None a b h = (refl, let e : b ≡ a = cc in e)
-unless_ok (Some e) a b h = let z : ◌≡◌ {A = ℕ} 0 1 = cc in absurd (omega arith)
 
 -- n elements from the place i on
 abbrev span : ℕ → ℕ → List ℕ → List ℕ
@@ -120,13 +115,14 @@ module _ (bs : List ℕ) (bytes : Bytes bs) where
 
   pub one_form : (p : Parts) (rest : List ℕ) → decode bs ≡ Ok (p, rest) → encode p ++ rest ≡ bs
   one_form p rest e =
-      let read = unless_ok (first (byte_tests bs)) (parts_at bs, drop (size_at bs) bs) (p, rest) e in
-      let a = or_else_none (first (head_tests bs)) _ (sym (stages bs) ∙ read.0) in
+      let passed = found_nothing _ (first (byte_tests bs)) (sym e) in
+      let read = answered _ (first (byte_tests bs)) (sym e) in
+      let a = or_else_none (first (head_tests bs)) _ (sym (stages bs) ∙ passed) in
       let b = or_else_none (carried (first (counts bs))) _ a.1 in
       let c = or_else_none (carried (first (numbers bs))) _ b.1 in
       let d = or_else_none (long bs) _ c.1 in
       let whole : size_at bs ≤ length bs =
       leb-true (size_at bs) (length bs) (needs_met (Short (length bs)) (leb (size_at bs) (length bs)) d.0) in
-      let parts : p ≡ parts_at bs = ap (λ (x : Parts × List ℕ). x.0) read.1 in
-      let after : rest ≡ drop (size_at bs) bs = ap (λ (x : Parts × List ℕ). x.1) read.1 in
+      let parts : p ≡ parts_at bs = ap (λ (x : Parts × List ℕ). x.0) read in
+      let after : rest ≡ drop (size_at bs) bs = ap (λ (x : Parts × List ℕ). x.1) read in
       ap (λ x. encode x ++ rest) parts ∙ (ap (λ x. encode (parts_at bs) ++ x) after ∙ form_back whole a.0)

@@ -1,8 +1,10 @@
 -- Writing into a buffer, part by part.
-use Rattle.std.proofs.Common.{◌≡◌, ℕ, ◌+◌, ◌*◌, ◌/◌, ◌%◌, ◌<◌, ◌≤◌, List, [], ◌∷◌, ◌++◌, map, length, get_or, take, drop, Ok, Err, sym, refl, ap, ◌∙◌, zero-add, arith}
-use lib.Seq.{paste}
+use Rattle.std.proofs.Common.{◌≡◌, ℕ, ◌+◌, ◌-◌, ◌*◌, ◌/◌, ◌%◌, ◌<◌, ◌≤◌, List, [], ◌∷◌, ◌++◌, map, length, get_or, take, drop, Ok, Err, sym, refl, ap, ◌∙◌, arith}
 use Rattle.std.proofs.lemmas.List.Edits.{paste_all, paste-paste}
-use Rattle.std.proofs.lemmas.List.{append_assoc, length-append, length-map, length-take-le, map_more, take_all}
+use Rattle.std.proofs.lemmas.Slice.{put_mid-paste, drop-append-drop}
+use lib.Seq.{paste}
+use borrow.Rule.Slice.PartMut.{put_mid}
+use Rattle.std.proofs.lemmas.List.{append_assoc, length-append, length-map, length-take-le, map_more, take_at}
 use Rattle.std.proofs.lemmas.Bool.{cond-true, cond-false, lt-ltb, le-ltb}
 use Rattle.numbers.specs.declared.number.TaskNo.{TaskNo}
 use Rattle.numbers.specs.declared.set.Set.{Set}
@@ -21,9 +23,19 @@ placed_more o at xs ys n h e =
     ap (λ k. placed (placed o at xs) k ys) (sym e)
     ∙ (paste-paste o at xs ys (length xs) (length ys) refl refl h ∙ ap (paste o at (xs ++ ys)) (sym (length-append xs ys)))
 
+-- one more part behind the first n bytes
+pub front_more :
+    (o xs ys : List ℕ) (n k m e : ℕ) → length xs ≡ n → length ys ≡ m → m ≡ k → n + m ≡ e →
+    put_mid n k (xs ++ drop n o) ys ≡ (xs ++ ys) ++ drop e o
+front_more o xs ys n k m e front part room end =
+    put_mid-paste n k (xs ++ drop n o) ys ys m refl room (sym part)
+    ∙ (paste_all (xs ++ drop n o) n ys m (sym part)
+    ∙ (ap (λ v. v ++ (ys ++ drop (n + m) (xs ++ drop n o))) (take_at xs (drop n o) n front)
+    ∙ (ap (λ v. xs ++ (ys ++ v)) (drop-append-drop n o xs (n + m) (omega arith) front)
+    ∙ (sym (append_assoc xs ys (drop (n + m) o)) ∙ ap (λ k. (xs ++ ys) ++ drop k o) end))))
+
 -- a loop that writes sets
-module _ (o out : List ℕ) (at : ℕ) (sets : List (Set TaskNo)) (i : ℕ)
-    (so_far : out ≡ placed o at (twos (map bits_of (take i sets)))) where
+module _ (o : List ℕ) (sets : List (Set TaskNo)) (i : ℕ) where
   abbrev done : List ℕ
   done = map bits_of (take i sets)
 
@@ -31,22 +43,18 @@ module _ (o out : List ℕ) (at : ℕ) (sets : List (Set TaskNo)) (i : ℕ)
   entry = get_or sets i (record { bits = 0; kind = record {} })
 
   pub put_sets_more :
-      (v two : List ℕ) (w : ℕ) → at + 2 * length sets ≤ length o → i < length sets → w ≡ entry.bits →
-      two ≡ (w % 256 ∷ w / 256 % 256 ∷ []) → v ≡ placed out (at + 2 * i) two →
-      v ≡ placed o at (twos (map bits_of (take (i + 1) sets)))
-  put_sets_more v two w fits h is e wrote_two =
+      (out two : List ℕ) (w k : ℕ) → out ≡ twos done ++ drop (2 * i) o → i < length sets → w ≡ entry.bits →
+      two ≡ (w % 256 ∷ w / 256 % 256 ∷ []) → 2 ≡ k →
+      put_mid (2 * i) k out two ≡ twos (map bits_of (take (i + 1) sets)) ++ drop (2 * (i + 1)) o
+  put_sets_more out two w k so_far low is bytes room =
       let a : length (take i sets) ≡ i = length-take-le i sets (omega arith) in
       let m : length done ≡ length (take i sets) = length-map (take i sets) bits_of in
       let b : length (twos done) ≡ 2 * length done = length_twos done in
-      let d = placed_more o at (twos done) two (at + 2 * i) (omega arith) (omega arith) in
-      let pair : two ≡ (entry.bits % 256 ∷ entry.bits / 256 % 256 ∷ []) = e ∙ ap (λ x. x % 256 ∷ x / 256 % 256 ∷ []) is in
-      let f : twos (map bits_of (take (i + 1) sets)) ≡ twos done ++ two =
-      ap twos (map_more bits_of sets i (record { bits = 0; kind = record {} }) h)
-      ∙ (twos_push done entry.bits ∙ ap (λ z. twos done ++ z) (sym pair)) in
-      wrote_two ∙ (ap (λ z. placed z (at + 2 * i) two) so_far ∙ (d ∙ ap (placed o at) (sym f)))
-
-  pub put_sets_all : length sets ≤ i → out ≡ placed o at (twos (map bits_of sets))
-  put_sets_all h = so_far ∙ ap (λ z. placed o at (twos (map bits_of z))) (take_all i sets h)
+      let pair : two ≡ (entry.bits % 256 ∷ entry.bits / 256 % 256 ∷ []) = bytes ∙ ap (λ x. x % 256 ∷ x / 256 % 256 ∷ []) is in
+      ap (λ v. put_mid (2 * i) k v two) so_far
+      ∙ (front_more o (twos done) two (2 * i) k 2 (2 * (i + 1)) (omega arith) (ap length bytes) room (omega arith)
+      ∙ ap (λ v. v ++ drop (2 * (i + 1)) o)
+      (ap (λ v. twos done ++ v) pair ∙ sym (ap twos (map_more bits_of sets i (record { bits = 0; kind = record {} }) low) ∙ twos_push done entry.bits)))
 
 -- a buffer too short, and one that takes the plan
 module _ (p : Parts) (o : List ℕ) where
@@ -69,42 +77,49 @@ module _ (p : Parts) (o : List ℕ) where
       let short = lt-ltb (length o) (length (encode p)) (omega arith) in
       record { answer = sym (cond-true _ _ _ short); buffer = sym (cond-true _ _ _ short) }
 
-  module _ (v1 v2 v3 v4 : List ℕ) (fits : size t l n ≤ length o) (e1 : v1 ≡ placed o 0 (head p))
-      (e2 : v2 ≡ placed v1 14 p.priorities) (e3 : v3 ≡ placed v2 (14 + t) p.levels)
-      (e4 : v4 ≡ placed v3 (14 + t + l) (twos p.wakes)) where
-    put_whole : v4 ≡ placed o 0 (encode p)
+  -- the four parts, one behind the other
+  module _ (a b c d : List ℕ) (tasks lines events : ℕ) (is_t : tasks ≡ t) (is_l : lines ≡ l) (is_n : events ≡ n)
+      (is_a : a ≡ head p) (is_b : b ≡ p.priorities) (is_c : c ≡ p.levels) (is_d : d ≡ twos p.wakes) where
+    abbrev levels_at : ℕ
+    levels_at = 14 + tasks
+
+    abbrev wakes_at : ℕ
+    wakes_at = levels_at + lines
+
+    abbrev end : ℕ
+    end = wakes_at + 2 * events
+
+    abbrev buffer : List ℕ
+    buffer =
+        put_mid wakes_at (end - wakes_at) (put_mid levels_at (wakes_at - levels_at) (put_mid 14 (levels_at - 14) (a ++ drop 14 o) b) c) d
+
+    put_whole : buffer ≡ encode p ++ drop end o
     put_whole =
-        let h : List ℕ = head p in
-        let hp : List ℕ = h ++ p.priorities in
-        let hpl : List ℕ = hp ++ p.levels in
-        let l1 : length hp ≡ 14 + t = length-append h p.priorities ∙ omega arith in
-        let l2 : length hpl ≡ 14 + t + l = length-append hp p.levels ∙ omega arith in
-        let p1 : placed (placed o 0 h) 14 p.priorities ≡ placed o 0 hp =
-        placed_more o 0 h p.priorities 14 (omega arith) refl in
-        let p2 : placed (placed o 0 hp) (14 + t) p.levels ≡ placed o 0 hpl =
-        placed_more o 0 hp p.levels (14 + t) (omega arith) (omega arith) in
-        let p3 : placed (placed o 0 hpl) (14 + t + l) (twos p.wakes) ≡ placed o 0 (hpl ++ twos p.wakes) =
-        placed_more o 0 hpl (twos p.wakes) (14 + t + l) (omega arith) (omega arith) in
-        let q : hpl ++ twos p.wakes ≡ encode p =
-        append_assoc hp p.levels (twos p.wakes) ∙ append_assoc h p.priorities (p.levels ++ twos p.wakes) in
-        let r1 : v2 ≡ placed o 0 hp = e2 ∙ (ap (λ z. placed z 14 p.priorities) e1 ∙ p1) in
-        let r2 : v3 ≡ placed o 0 hpl = e3 ∙ (ap (λ z. placed z (14 + t) p.levels) r1 ∙ p2) in
-        e4 ∙ (ap (λ z. placed z (14 + t + l) (twos p.wakes)) r2 ∙ (p3 ∙ ap (placed o 0) q))
+        let la : length a ≡ 14 = ap length is_a in
+        let lb : length b ≡ tasks = ap length is_b ∙ sym is_t in
+        let lc : length c ≡ lines = ap length is_c ∙ sym is_l in
+        let ld : length d ≡ 2 * events = ap length is_d ∙ (length_twos p.wakes ∙ omega arith) in
+        let lab : length (a ++ b) ≡ levels_at = length-append a b ∙ omega arith in
+        let labc : length ((a ++ b) ++ c) ≡ wakes_at = length-append (a ++ b) c ∙ omega arith in
+        let parts : a ++ (b ++ (c ++ d)) ≡ encode p = rw (is_a, is_b, is_c, is_d) refl in
+        ap (λ v. put_mid wakes_at (end - wakes_at) (put_mid levels_at (wakes_at - levels_at) v c) d)
+        (front_more o a b 14 (levels_at - 14) tasks levels_at la lb (omega arith) refl)
+        ∙ (ap (λ v. put_mid wakes_at (end - wakes_at) v d) (front_more o (a ++ b) c levels_at (wakes_at - levels_at) lines wakes_at lab lc (omega arith) refl)
+        ∙ (front_more o ((a ++ b) ++ c) d wakes_at (end - wakes_at) (2 * events) end labc ld (omega arith) refl
+        ∙ ap (λ v. v ++ drop end o)
+        (append_assoc (a ++ b) c d ∙ (append_assoc a b (c ++ d) ∙ parts))))
 
     pub record WrittenBuffer : Type 0 where
-      pub answer : Ok (size t l n) ≡ wrote (encode p) o
-      pub buffer : v4 ≡ left (encode p) o
-      pub bytes : v4 ≡ encode p ++ drop (size t l n) o
+      pub answer : Ok end ≡ wrote (encode p) o
+      pub buffer_left : buffer ≡ left (encode p) o
+      pub bytes : buffer ≡ encode p ++ drop end o
 
-    pub written : WrittenBuffer
-    written =
-        let e = length_encode p in
+    pub written : end ≤ length o → WrittenBuffer
+    written fits =
+        let e : end ≡ length (encode p) = omega (arith, length_encode p) in
         let long = le-ltb (length o) (length (encode p)) (omega arith) in
-        let k : drop (0 + length (encode p)) o ≡ drop (length (encode p)) o = ap (λ k. drop k o) (zero-add (length (encode p))) in
-        let whole : v4 ≡ encode p ++ drop (length (encode p)) o =
-        put_whole ∙ (paste_all o 0 (encode p) (length (encode p)) refl ∙ ap (λ z. encode p ++ z) k) in
         record {
-          answer = ap Ok (sym e) ∙ sym (cond-false _ _ _ long);
-          buffer = whole ∙ sym (cond-false _ _ _ long);
-          bytes = whole ∙ ap (λ k. encode p ++ drop k o) e;
+          answer = ap Ok e ∙ sym (cond-false _ _ _ long);
+          buffer_left = put_whole ∙ (ap (λ k. encode p ++ drop k o) e ∙ sym (cond-false _ _ _ long));
+          bytes = put_whole;
         }

@@ -7,7 +7,7 @@ use Rattle.board.specs.declared.refusal.PlanRefusal.{PlanRefusal}
 use Rattle.board.specs.Plans.{Parts, count_tests, number_tests, set_tests, plan_tests, planned}
 use Rattle.board.specs.Refusing.{or_else, first, unless}
 use Rattle.board.proofs.Planning.{counts_in_range, or_else_none, sets_known}
-use Rattle.board.proofs.Refusing.{first_append}
+use Rattle.board.proofs.Refusing.{first_append, found_nothing}
 use Rattle.formats.specs.Decode.{Legal, carried, parts_at, head_tests, byte_tests, decode, with_rest}
 use Rattle.formats.specs.Wire.{encode, head, size, twos, words}
 use Rattle.formats.proofs.Parts.{same_parts}
@@ -94,16 +94,11 @@ module _ (p : Parts) where
         ap (λ o. unless o (parts_at bs, drop (size t l n) bs)) tests_back
         ∙ (ap (unless (carried (first (plan_tests p)))) same ∙ unless_carried (first (plan_tests p)) p rest)
 
--- a legal plan's sets fit two bytes
-ok_none : {A E : Type 0} (found : Option E) (a b : A) → unless found a ≡ Ok b → found ≡ None
-ok_none None a b h = refl
-ok_none (Some e) a b h = let z : ◌≡◌ {A = ℕ} 0 1 = cc in absurd (omega arith)
-
 pub legal_read_back : (p : Parts) → Legal p → (rest : List ℕ) → decode (encode p ++ rest) ≡ Ok (p, rest)
 legal_read_back p legal rest =
     let C = count_tests (length p.priorities) (length p.levels) (length p.wakes) in
     let N = number_tests p.policy p.rule in
-    let passed : first (plan_tests p) ≡ None = ok_none (first (plan_tests p)) p p legal in
+    let passed : first (plan_tests p) ≡ None = found_nothing p (first (plan_tests p)) (sym legal) in
     let a = or_else_none (first C) _ (sym (first_append C (N ++ set_tests p)) ∙ passed) in
     let b = or_else_none (first N) _ (sym (first_append N (set_tests p)) ∙ a.1) in
     let few = counts_in_range (length p.priorities) (length p.levels) (length p.wakes) a.0 in

@@ -1,13 +1,13 @@
 -- Reading a plan, stage by stage.
-use Rattle.std.proofs.Common.{◌≡◌, ℕ, ◌+◌, ◌*◌, ◌<◌, ◌≤◌, Bool, true, false, leb, List, [], ◌∷◌, ◌++◌, map, length, get_or, drop, Some, None, Ok, Err, Option, Result, sym, refl, ap, ◌∙◌, arith}
+use Rattle.std.proofs.Common.{◌≡◌, ℕ, ◌+◌, ◌*◌, ◌≤◌, Bool, true, leb, List, [], ◌∷◌, ◌++◌, map, length, get_or, drop, Some, None, Ok, Err, Option, Result, sym, refl, ap, ◌∙◌, arith}
 use Rattle.std.proofs.lemmas.List.Edits.{length-between}
-use Rattle.std.proofs.lemmas.Bool.{le-leb, lt-leb}
+use Rattle.std.proofs.lemmas.Bool.{le-leb}
 use Rattle.std.specs.List.{between}
 use Rattle.board.specs.declared.refusal.PlanRefusal.{PlanRefusal}
 use Rattle.board.specs.Plans.{Parts, count_tests, number_tests, set_tests, planned}
 use Rattle.board.specs.Refusing.{needs, or_else, first, unless, checked}
 use Rattle.board.proofs.Planning.{or_else_none, planned_by_sets}
-use Rattle.board.proofs.Refusing.{first_append, all_passed, first_failed}
+use Rattle.board.proofs.Refusing.{first_append, all_passed, answered, first_failed, found_nothing, found_this}
 use Rattle.formats.specs.declared.fault.PlanFault.{PlanFault}
 use Rattle.formats.specs.declared.fault.PlanFault.TheVariants.{Short, Refused}
 use Rattle.formats.specs.Decode.{carried, size_at, parts_at, head_tests, byte_tests, decode}
@@ -24,9 +24,6 @@ first_carried (t ∷ tests) = ap (or_else (carried t)) (first_carried tests) ∙
 
 pub needs_yes : {E : Type 0} (e : E) (b : Bool) → b ≡ true → needs b e ≡ None
 needs_yes e b h = ap (λ v. needs v e) h
-
-needs_no : {E : Type 0} (e : E) (b : Bool) → b ≡ false → needs b e ≡ Some e
-needs_no e b h = ap (λ v. needs v e) h
 
 module _ (bs : List ℕ) where
   abbrev pub counts : List (Option PlanRefusal)
@@ -66,9 +63,6 @@ module _ (bs : List ℕ) where
   abbrev answer : Option PlanFault → Result (Parts × List ℕ) PlanFault
   answer found = unless found (parts_at bs, drop (size_at bs) bs)
 
-  pub fault_in_head : {e : PlanFault} → Err e ≡ checked (head_tests bs) → Err e ≡ decode bs
-  fault_in_head h = sym (ap answer (by_stages (first_failed (head_tests bs) h) refl refl refl refl))
-
   module _ {u : Unit {0}} (head : Ok u ≡ checked (head_tests bs)) where
     -- the counts and the numbers are tested together
     both_tests : first (counts ++ numbers) ≡ or_else (first counts) (first numbers)
@@ -90,10 +84,6 @@ module _ (bs : List ℕ) where
     fault_in_numbers h = sym (ap answer (by_both (first_failed (counts ++ numbers) h) refl refl))
 
     module _ {v : Unit {0}} (numbered : Ok v ≡ checked (counts ++ numbers)) where
-      pub fault_in_size : length bs < size_at bs → Err (Short (length bs)) ≡ decode bs
-      fault_in_size short =
-          sym (ap answer (by_both (all_passed (counts ++ numbers) numbered) (needs_no _ _ (lt-leb (size_at bs) (length bs) short)) refl))
-
       none_found : (first counts ≡ None) × (first numbers ≡ None)
       none_found = or_else_none (first counts) (first numbers) (sym both_tests ∙ all_passed (counts ++ numbers) numbered)
 
@@ -123,18 +113,11 @@ module _ (bs : List ℕ) where
             ap answer
             (by_both (all_passed (counts ++ numbers) numbered) (needs_yes _ _ (le-leb (size_at bs) (length bs) whole)) h)
 
-        refused_sets : {e : PlanRefusal} (found : Option PlanRefusal) → Err e ≡ unless found (parts_at bs) → found ≡ Some e
-        refused_sets {e} None h = let z : ◌≡◌ {A = ℕ} 0 1 = cc in absurd (omega arith)
-        refused_sets {e} (Some x) h = cc
-
-        passed_sets : {p : Parts} (found : Option PlanRefusal) → Ok p ≡ unless found (parts_at bs) → (found ≡ None) × (p ≡ parts_at bs)
-        passed_sets {p} None h = (refl, let e : p ≡ parts_at bs = cc in e)
-        passed_sets {p} (Some x) h = let z : ◌≡◌ {A = ℕ} 0 1 = cc in absurd (omega arith)
-
         pub fault_in_sets : {e : PlanRefusal} → Err e ≡ planned (parts_at bs) → Err (Refused e) ≡ decode bs
-        fault_in_sets h = sym (decoded (refused_sets (first sets) (h ∙ left_to_sets)))
+        fault_in_sets h = sym (decoded (found_this (parts_at bs) (first sets) (h ∙ left_to_sets)))
 
         pub read_whole : {p : Parts} → Ok p ≡ planned (parts_at bs) → Ok (p, drop (size_at bs) bs) ≡ decode bs
         read_whole {p} h =
-            let q = passed_sets (first sets) (h ∙ left_to_sets) in
-            ap (λ x. Ok (x, drop (size_at bs) bs)) q.1 ∙ sym (decoded q.0)
+            let planned_so = h ∙ left_to_sets in
+            ap (λ x. Ok (x, drop (size_at bs) bs)) (answered (parts_at bs) (first sets) planned_so)
+            ∙ sym (decoded (found_nothing (parts_at bs) (first sets) planned_so))

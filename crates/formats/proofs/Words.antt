@@ -1,7 +1,10 @@
 -- Numbers of two bytes.
-use Rattle.std.proofs.Common.{◌≡◌, ℕ, zero, suc, ◌+◌, ◌*◌, ◌/◌, ◌%◌, ◌<◌, ◌≤◌, List, [], ◌∷◌, ◌++◌, map, length, get_or, take, set, sym, refl, ap, ◌∙◌, add_comm, add-one, arith}
+use Rattle.std.proofs.Common.{◌≡◌, ℕ, zero, suc, ◌+◌, ◌*◌, ◌/◌, ◌%◌, ◌<◌, ◌≤◌, List, [], ◌∷◌, ◌++◌, map, length, get_or, take, sym, refl, ap, ◌∙◌, subst, ⊎_elim, add_comm, add-one, arith}
 use Rattle.std.proofs.lemmas.Nat.{div-mul-add, mod-mul-add}
-use Rattle.std.proofs.lemmas.List.{map-append, take_all, take_more, take_more_set}
+use Rattle.std.proofs.lemmas.Bool.{cases_lt}
+use Rattle.std.proofs.lemmas.List.{ext_get_or, get_or-map, get_or-take, length-map, length-take-le}
+use Rattle.std.specs.Array.{IsFromFnResultFrom}
+use denote.Param.Members.{Mut, Called}
 use Rattle.numbers.specs.declared.number.TaskNo.{TaskNo}
 use Rattle.numbers.specs.declared.set.Set.{Set}
 use Rattle.board.specs.Plans.{bits_of}
@@ -58,22 +61,30 @@ words_twos (w ∷ ws) h =
     let r : words (twos ws) ≡ ws = words_twos ws (λ k. h (suc k)) in
     cc
 
--- a loop that reads sets
-module _ (bs : List ℕ) (all : List (Set TaskNo)) (n i : ℕ) (even : length bs ≡ 2 * n)
-    (places : length all ≡ 16) (so_far : map bits_of (take i all) ≡ take i (words bs)) where
-  pub sets_more :
-      (s : Set TaskNo) (w : ℕ) → n ≤ 16 → i < n → w ≡ word bs (2 * i) → s.bits ≡ w →
-      map bits_of (take (i + 1) (set all i s)) ≡ take (i + 1) (words bs)
-  sets_more s w few low is holds =
-      let len = length_words bs n even in
-      ap (map bits_of) (take_more_set all i s (omega arith))
-      ∙ (map-append bits_of (take i all) (s ∷ [])
-      ∙ (ap (λ v. v ++ s.bits ∷ []) so_far
-      ∙ (ap (λ v. take i (words bs) ++ v ∷ []) (holds ∙ (is ∙ sym (get_or_words bs i (omega arith))))
-      ∙ sym (take_more (words bs) i 0 (omega arith)))))
+-- what a function's calls at each index made, where each call leaves the function as it was
+module _ {F B : Type 0} (g : Mut F (ℕ × Unit {0}) B) (f : F) (ys : List B) (P : ℕ → B → Type 0)
+    (call : (i : ℕ) (y : B) (q : F) → Called g f (i, tt) y q → (q ≡ f) × P i y) where
+  pub made_each : (n i : ℕ) → IsFromFnResultFrom g f ys i n → (k : ℕ) → i ≤ k → k < i + n → (d : B) → P k (get_or ys k d)
+  made_each zero i each k low high d = absurd (omega arith)
+  made_each (suc n) i each k low high d =
+      let here = call i each.1 each.0 each.3 in
+      ⊎_elim
+      (λ (later : i < k).
+      made_each n (i + 1) (subst (λ h. IsFromFnResultFrom g h ys (i + 1) n) here.0 each.4) k (omega arith) (omega arith) d)
+      (λ (found : k ≤ i).
+      let same : i ≡ k = omega arith in
+      subst (λ j. P j (get_or ys j d)) same (subst (P i) (sym (each.2.1 d)) here.1))
+      (cases_lt i k)
 
-  pub sets_all : n ≤ i → i ≤ n → map bits_of (take n all) ≡ words bs
-  sets_all end within =
-      let len = length_words bs n even in
-      let same : n ≡ i = omega arith in
-      ap (λ k. map bits_of (take k all)) same ∙ (so_far ∙ take_all i (words bs) (omega arith))
+-- sets that were read one by one
+pub sets_read :
+    (bs : List ℕ) (sets : List (Set TaskNo)) (z : Set TaskNo) (n : ℕ) → length bs ≡ 2 * n → n ≤ length sets →
+    ((k : ℕ) → k < n → (get_or sets k z).bits ≡ word bs (2 * k)) → map bits_of (take n sets) ≡ words bs
+sets_read bs sets z n even room each =
+    let taken : length (take n sets) ≡ n = length-take-le n sets room in
+    let long : length (map bits_of (take n sets)) ≡ n = length-map (take n sets) bits_of ∙ taken in
+    ext_get_or 0 (map bits_of (take n sets)) (words bs) (long ∙ sym (length_words bs n even))
+    (λ k low.
+    get_or-map bits_of (take n sets) k z 0 (omega arith)
+    ∙ (ap bits_of (get_or-take n sets k z (omega arith))
+    ∙ (each k (omega arith) ∙ sym (get_or_words bs k (omega arith)))))

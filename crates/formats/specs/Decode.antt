@@ -1,5 +1,6 @@
 -- What bytes say when they are read as a plan.
 use Rattle.std.specs.Prelude.{◌≡◌, ℕ, ◌+◌, ◌<◌, ◌&&◌, List, [], ◌∷◌, ◌++◌, map, length, drop, Some, None, Ok, Err, Option, Result, ◌==◌, nat_le, slice_index}
+use Rattle.std.specs.Borrow.{Bor}
 use Rattle.std.specs.List.{between}
 use Rattle.board.specs.declared.plan.Plan.{Plan}
 use Rattle.board.specs.declared.refusal.PlanRefusal.{PlanRefusal}
@@ -79,6 +80,11 @@ BeginsWithAPlan bs = (p : Parts) × (rest : List ℕ) × Legal p × (bs ≡ enco
 abbrev pub read_as : Result Plan PlanFault → List ℕ → Result (Parts × List ℕ) PlanFault
 read_as (Ok plan) rest = Ok (parts plan, rest)
 read_as (Err fault) rest = Err fault
+
+-- the same of an answer that has the rest itself
+abbrev pub plan_and_rest : Result (Plan × Bor (List ℕ)) PlanFault → Result (Parts × List ℕ) PlanFault
+plan_and_rest (Ok read) = Ok (parts read.0, read.1.now)
+plan_and_rest (Err fault) = Err fault
 
 -- the same of an answer that gives the plan's size
 abbrev pub sized : List ℕ → Result (Plan × ℕ) PlanFault → Result (Parts × List ℕ) PlanFault

@@ -3,6 +3,8 @@ use Rattle.std.specs.Prelude.{ℕ, ◌+◌, ◌*◌}
 use Rattle.board.specs.declared.refusal.PlanRefusal.{PlanRefusal}
 use Rattle.board.specs.declared.refusal.PlanRefusal.TheVariants.{TaskCount, LineCount, EventCount, PolicyNumber, RuleNumber, StartSet, FavouredSet, WakeSet}
 use Rattle.formats.specs.declared.fault.PlanFault.{PlanFault}
+use Rattle.formats.specs.declared.fault.Layer.{Layer}
+use Rattle.formats.specs.declared.fault.Layer.TheVariants as layer
 use Rattle.formats.specs.declared.fault.Refusal.{Refusal}
 use Rattle.formats.specs.declared.fault.PlanFault.TheVariants.{Short, Mark, Version, Refused, Buffer}
 
@@ -40,6 +42,12 @@ plan_place Version = 3
 plan_place (Refused refusal) = refusal_place refusal
 plan_place (Buffer length) = length
 
--- a plan's fault has layer 1
+-- a plan's fault has the plan's layer
 abbrev pub plan_refusal : PlanFault → Refusal
-plan_refusal fault = record { number = plan_number fault; place = plan_place fault; layer = 1 }
+plan_refusal fault = record { number = plan_number fault; place = plan_place fault; layer = layer.Plan }
+
+abbrev pub layer_number : Layer → ℕ
+layer_number layer.Plan = 1
+layer_number layer.Run = 2
+layer_number layer.Drive = 3
+layer_number layer.Program = 4

@@ -1,24 +1,29 @@
 // Why plan bytes, tables or a buffer are refused.
 ghost use Rattle.std.specs.Prelude.{◌≡◌};
 ghost use Rattle.formats.specs.declared.fault.PlanFault.TheVariants.{Refused};
-ghost use Rattle.formats.specs.Faults.{plan_number, plan_place, plan_refusal};
+ghost use Rattle.formats.specs.Faults.{layer_number, plan_number, plan_place, plan_refusal};
 
 use board::refusal::PlanRefusal;
+use thiserror::Error;
 
-#[derive(Clone, Copy, Debug)]
+#[derive(Clone, Copy, Debug, PartialEq, Eq, Error)]
 pub enum PlanFault {
-    // fewer bytes than a plan has; with their number
+    // with the number of bytes
+    #[error("{0} bytes are fewer than the plan has")]
     Short(usize),
-    // another mark than PLN
+    #[error("a plan begins with the mark PLN")]
     Mark,
-    // another version than 1
+    #[error("the version is not 1")]
     Version,
     // what the tables are refused for
+    #[error("{0}")]
     Refused(PlanRefusal),
-    // a buffer that is too short; with its length
+    // with the buffer's length
+    #[error("a buffer of {0} bytes is too short for the plan")]
     Buffer(usize),
 }
 
+// By hand, since clauses name what it gives, and a derived one has no contract.
 impl From<PlanRefusal> for PlanFault {
     ghost from_gives = { λ refusal fault. fault ≡ Refused refusal };
 
@@ -27,12 +32,31 @@ impl From<PlanRefusal> for PlanFault {
     }
 }
 
+// What refuses.
+#[derive(Clone, Copy, Debug, PartialEq, Eq)]
+pub enum Layer {
+    Plan = 1,
+    Run = 2,
+    Drive = 3,
+    Program = 4,
+}
+
+// As the numbers of the kernel's places: a cast, which a `From` would only wrap.
+impl Layer {
+    pub fn number(self) -> u8
+        ensures { result ≡ layer_number self }
+    {
+        self as u8
+    }
+}
+
 // How a fault is told: its number, its place in the part that was read, and the layer that refused.
-#[derive(Clone, Copy)]
+#[derive(Clone, Copy, Debug, PartialEq, Eq)]
 pub struct Refusal {
+    // as it is printed; the kinds are the faults' variants, and several share a number
     pub number: u8,
     pub place: usize,
-    pub layer: u8,
+    pub layer: Layer,
 }
 
 impl PlanFault {
@@ -42,7 +66,7 @@ impl PlanFault {
         Refusal {
             number: self.number(),
             place: self.place(),
-            layer: 1,
+            layer: Layer::Plan,
         }
     }
 

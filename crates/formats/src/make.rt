@@ -8,19 +8,11 @@ ghost use Rattle.formats.specs.Wire.{encode};
 use crate::fault::PlanFault;
 use board::plan::{Plan, Tables};
 
-fn make(tables: &Tables) -> Result<Plan, PlanFault>
-    ensures answer { (rest : List ℕ) → read_as result rest ≡ with_rest rest (planned (given tables.now)) }
-    ensures as_read { TwoByteSets (given tables.now) → (rest : List ℕ) → read_as result rest ≡ decode (encode (given tables.now) ++ rest) }
-{
-    let plan = Plan::from_tables(tables)?;
-    Ok(plan)
-}
-
 // The plan of these tables. What is wrong with them is refused with the number and the place that
 // reading their bytes would give.
 pub fn plan_from_tables(tables: &Tables) -> Result<Plan, PlanFault>
     ensures answer { (rest : List ℕ) → read_as result rest ≡ with_rest rest (planned (given tables.now)) }
     ensures as_read { TwoByteSets (given tables.now) → (rest : List ℕ) → read_as result rest ≡ decode (encode (given tables.now) ++ rest) }
 {
-    make(tables)
+    Ok(Plan::from_tables(tables)?)
 }

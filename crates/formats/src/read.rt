@@ -3,21 +3,22 @@ ghost use Rattle.std.specs.Prelude.{◌≡◌, ℕ, ◌+◌, ◌*◌, ◌<◌, �
 ghost use Rattle.board.specs.Plans.{bits_of, count_tests, number_tests, planned};
 ghost use Rattle.board.specs.Refusing.{checked, ComesFirst};
 ghost use Rattle.board.specs.Viewed.{made, parts};
-ghost use Rattle.formats.specs.Decode.{BeginsWithAPlan, Bytes, byte_tests, decode, head_tests, parts_at, read_as, size_at, sized};
+ghost use Rattle.formats.specs.Decode.{BeginsWithAPlan, Bytes, byte_tests, decode, head_tests, parts_at, plan_and_rest, size_at, sized};
 ghost use Rattle.formats.specs.Wire.{encode, word, words};
 
 use crate::fault::PlanFault;
 use board::making::check_numbers;
-use board::plan::{Plan, Tables};
+use board::plan::{Counts, Plan, Tables};
 use board::refusal::PlanRefusal;
 use numbers::number::TaskNo;
 use numbers::set::Set;
+use std::array;
 
 fn word_at(bytes: &[u8], i: usize) -> u16
     requires { i + 1 < length bytes.now }
     ensures { result ≡ word bytes.now i }
 {
-    bytes[i] as u16 + bytes[i + 1] as u16 * 256
+    u16::from_le_bytes([bytes[i], bytes[i + 1]])
 }
 
 fn check_head(bytes: &[u8]) -> Result<(), PlanFault>
@@ -26,7 +27,7 @@ fn check_head(bytes: &[u8]) -> Result<(), PlanFault>
     if bytes.len() < 14 {
         return Err(PlanFault::Short(bytes.len()));
     }
-    if bytes[0] != b'P' || bytes[1] != b'L' || bytes[2] != b'N' {
+    if !bytes.starts_with(b"PLN") {
         return Err(PlanFault::Mark);
     }
     if word_at(bytes, 3) != 1 {
@@ -35,17 +36,19 @@ fn check_head(bytes: &[u8]) -> Result<(), PlanFault>
     Ok(())
 }
 
-// The sets that stand in the bytes, first in sixteen places.
+// The sets that stand in the bytes, first in sixteen places, since memory is fixed.
 fn sets_in(bytes: &[u8], count: usize) -> [Set<TaskNo>; 16]
     requires few { count ≤ 16 }
     requires whole { length bytes.now ≡ 2 * count }
     ensures { map bits_of (take count result) ≡ words bytes.now }
 {
-    let mut all = [Set::from_bits(0); 16];
-    for i in 0..count {
-        all[i] = Set::from_bits(word_at(bytes, 2 * i));
-    }
-    all
+    array::from_fn(|i| {
+        if i < count {
+            Set::from_bits(word_at(bytes, 2 * i))
+        } else {
+            Set::from_bits(0)
+        }
+    })
 }
 
 // The plan whose parts stand in the bytes.
@@ -65,7 +68,7 @@ fn plan_at(bytes: &[u8]) -> Result<Plan, PlanRefusal>
         favoured: Set::from_bits(word_at(bytes, 12)),
         priorities: &bytes[14..levels_at],
         levels: &bytes[levels_at..wakes_at],
-        wakes: &wakes[0..events],
+        wakes: &wakes[..events],
     })
 }
 
@@ -76,8 +79,13 @@ fn parse(bytes: &[u8]) -> Result<(Plan, usize), PlanFault>
     ensures bytes { Bytes bytes.now }
 {
     check_head(bytes)?;
-    check_numbers(bytes[5], bytes[6], bytes[7], bytes[8], bytes[9])?;
-    let size = 14 + bytes[5] as usize + bytes[6] as usize + 2 * bytes[7] as usize;
+    let counts = Counts {
+        tasks: bytes[5],
+        lines: bytes[6],
+        events: bytes[7],
+    };
+    check_numbers(counts, bytes[8], bytes[9])?;
+    let size = 14 + counts.tasks as usize + counts.lines as usize + 2 * counts.events as usize;
     if bytes.len() < size {
         return Err(PlanFault::Short(bytes.len()));
     }
@@ -85,18 +93,15 @@ fn parse(bytes: &[u8]) -> Result<(Plan, usize), PlanFault>
     Ok((plan, size))
 }
 
-// Takes the plan off the front of the bytes. A refusal leaves the bytes as they are.
-pub fn read_plan<'a>(bytes: &mut &'a [u8]) -> Result<Plan, PlanFault>
-    ensures answer { read_as result bytes.new.now ≡ decode bytes.old.now }
-    ensures kept { OnErr result (bytes.new.now ≡ bytes.old.now) }
-    ensures whole { IfOk result (λ plan. encode (parts plan) ++ bytes.new.now ≡ bytes.old.now) }
-    ensures one_form { IfOk result (λ plan. (other : List ℕ) → Bytes other → decode other ≡ Ok (parts plan, bytes.new.now) → other ≡ bytes.old.now) }
-    ensures no_further { IfOk result (λ plan. (more : List ℕ) → decode (encode (parts plan) ++ more) ≡ Ok (parts plan, more)) }
-    ensures first { IfErr result (λ fault. ComesFirst (byte_tests bytes.old.now) fault) }
-    ensures no_plan { OnErr result (BeginsWithAPlan bytes.old.now → ⊥) }
+// The plan that begins the bytes, and the bytes after it.
+pub fn read_plan(bytes: &[u8]) -> Result<(Plan, &[u8]), PlanFault>
+    ensures answer { plan_and_rest result ≡ decode bytes.now }
+    ensures whole { IfOk result (λ read. encode (parts read.0) ++ read.1.now ≡ bytes.now) }
+    ensures one_form { IfOk result (λ read. (other : List ℕ) → Bytes other → decode other ≡ Ok (parts read.0, read.1.now) → other ≡ bytes.now) }
+    ensures no_further { IfOk result (λ read. (more : List ℕ) → decode (encode (parts read.0) ++ more) ≡ Ok (parts read.0, more)) }
+    ensures first { IfErr result (λ fault. ComesFirst (byte_tests bytes.now) fault) }
+    ensures no_plan { OnErr result (BeginsWithAPlan bytes.now → ⊥) }
 {
-    let all = *bytes;
-    let (plan, size) = parse(all)?;
-    *bytes = &all[size..];
-    Ok(plan)
+    let (plan, size) = parse(bytes)?;
+    Ok((plan, &bytes[size..]))
 }

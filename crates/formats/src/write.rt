@@ -11,22 +11,13 @@ use board::plan::Plan;
 use numbers::number::TaskNo;
 use numbers::set::Set;
 
-// Writes the part from a place on.
-fn put(out: &mut [u8], at: usize, part: &[u8])
-    requires { at + length part.now ≤ length out.old }
-    ensures { out.new ≡ placed out.old at part.now }
+// Writes the sets, two bytes each.
+fn put_sets(out: &mut [u8], sets: &[Set<TaskNo>])
+    requires { length out.old ≡ 2 * length sets.now }
+    ensures { out.new ≡ twos (map bits_of sets.now) }
 {
-    let end = at + part.len();
-    out[at..end].copy_from_slice(part);
-}
-
-// Writes the sets from a place on, two bytes each.
-fn put_sets(out: &mut [u8], at: usize, sets: &[Set<TaskNo>])
-    requires { at + 2 * length sets.now ≤ length out.old }
-    ensures { out.new ≡ placed out.old at (twos (map bits_of sets.now)) }
-{
-    for i in 0..sets.len() {
-        put(out, at + 2 * i, &sets[i].bits().to_le_bytes());
+    for (i, set) in sets.iter().enumerate() {
+        out[2 * i..2 * i + 2].copy_from_slice(&set.bits().to_le_bytes());
     }
 }
 
@@ -71,9 +62,9 @@ pub fn write_plan(plan: &Plan, out: &mut [u8]) -> Result<usize, PlanFault>
         return Err(PlanFault::Buffer(out.len()));
     }
     let tables = plan.tables();
-    put(out, 0, &head_of(plan));
-    put(out, 14, tables.priorities);
-    put(out, levels_at, tables.levels);
-    put_sets(out, wakes_at, tables.wakes);
+    out[..14].copy_from_slice(&head_of(plan));
+    out[14..levels_at].copy_from_slice(tables.priorities);
+    out[levels_at..wakes_at].copy_from_slice(tables.levels);
+    put_sets(&mut out[wakes_at..size], tables.wakes);
     Ok(size)
 }

@@ -1,4 +1,5 @@
 pub mod Numbers
+pub mod Texts
 pub mod States
 pub mod Rules
 pub mod Histories

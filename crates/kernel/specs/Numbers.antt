@@ -1,5 +1,9 @@
 -- The numbers of routines, places and calls.
-use Rattle.std.specs.Prelude.{ℕ, ◌+◌, min}
+use Rattle.std.specs.Prelude.{ℕ, ◌+◌, min, Result, Ok, Err}
+use Rattle.kernel.specs.declared.answer.Accepted.{Accepted}
+use Rattle.kernel.specs.declared.answer.Accepted.TheVariants.{Done, New, Merged}
+use Rattle.kernel.specs.declared.answer.CallRefusal.{CallRefusal}
+use Rattle.kernel.specs.declared.answer.CallRefusal.TheVariants.{Unknown, NotPending, NotEnabled, AlreadyNested, NotMoreUrgent, NoRequest, DelayedOff, OtherRoutine, OtherPlace}
 use Rattle.kernel.specs.declared.call.Call.{Call}
 use Rattle.kernel.specs.declared.call.Call.TheVariants.{Raise, Enter, Pend, Go, Signal, Block, Post, Leave, Mask, Unmask}
 use Rattle.kernel.specs.declared.place.LinePlace.{LinePlace}
@@ -53,3 +57,23 @@ call_number (Post e) = 7
 call_number Leave = 8
 call_number (Mask i) = 9
 call_number (Unmask i) = 10
+
+abbrev pub accepted_number : Accepted → ℕ
+accepted_number Done = 0
+accepted_number New = 100
+accepted_number Merged = 101
+
+abbrev pub call_refusal_number : CallRefusal → ℕ
+call_refusal_number Unknown = 11
+call_refusal_number NotPending = 12
+call_refusal_number NotEnabled = 13
+call_refusal_number AlreadyNested = 14
+call_refusal_number NotMoreUrgent = 15
+call_refusal_number NoRequest = 16
+call_refusal_number DelayedOff = 17
+call_refusal_number OtherRoutine = 18
+call_refusal_number OtherPlace = 19
+
+abbrev pub answer_number : Result Accepted CallRefusal → ℕ
+answer_number (Ok accepted) = accepted_number accepted
+answer_number (Err refusal) = call_refusal_number refusal

@@ -41,46 +41,46 @@ pub record State : Type 0 where
   pub scheduler : SchedulerPlace
 
 abbrev pub with_enabled : ℕ → State → State
-with_enabled v s = record { enabled = v; pending = s.pending; delayed = s.delayed; request = s.request; active = s.active; suspended = s.suspended; current = s.current; ready = s.ready; posted = s.posted; copied = s.copied; chosen = s.chosen; tasks = s.tasks; lines = s.lines; scheduler = s.scheduler }
+with_enabled v s = record s { enabled = v }
 
 abbrev pub with_pending : ℕ → State → State
-with_pending v s = record { enabled = s.enabled; pending = v; delayed = s.delayed; request = s.request; active = s.active; suspended = s.suspended; current = s.current; ready = s.ready; posted = s.posted; copied = s.copied; chosen = s.chosen; tasks = s.tasks; lines = s.lines; scheduler = s.scheduler }
+with_pending v s = record s { pending = v }
 
 abbrev pub with_delayed : Bool → State → State
-with_delayed v s = record { enabled = s.enabled; pending = s.pending; delayed = v; request = s.request; active = s.active; suspended = s.suspended; current = s.current; ready = s.ready; posted = s.posted; copied = s.copied; chosen = s.chosen; tasks = s.tasks; lines = s.lines; scheduler = s.scheduler }
+with_delayed v s = record s { delayed = v }
 
 abbrev pub with_request : Bool → State → State
-with_request v s = record { enabled = s.enabled; pending = s.pending; delayed = s.delayed; request = v; active = s.active; suspended = s.suspended; current = s.current; ready = s.ready; posted = s.posted; copied = s.copied; chosen = s.chosen; tasks = s.tasks; lines = s.lines; scheduler = s.scheduler }
+with_request v s = record s { request = v }
 
 abbrev pub with_active : Routine → State → State
-with_active v s = record { enabled = s.enabled; pending = s.pending; delayed = s.delayed; request = s.request; active = v; suspended = s.suspended; current = s.current; ready = s.ready; posted = s.posted; copied = s.copied; chosen = s.chosen; tasks = s.tasks; lines = s.lines; scheduler = s.scheduler }
+with_active v s = record s { active = v }
 
 abbrev pub with_suspended : List Routine → State → State
-with_suspended v s = record { enabled = s.enabled; pending = s.pending; delayed = s.delayed; request = s.request; active = s.active; suspended = v; current = s.current; ready = s.ready; posted = s.posted; copied = s.copied; chosen = s.chosen; tasks = s.tasks; lines = s.lines; scheduler = s.scheduler }
+with_suspended v s = record s { suspended = v }
 
 abbrev pub with_current : TaskNo → State → State
-with_current v s = record { enabled = s.enabled; pending = s.pending; delayed = s.delayed; request = s.request; active = s.active; suspended = s.suspended; current = v; ready = s.ready; posted = s.posted; copied = s.copied; chosen = s.chosen; tasks = s.tasks; lines = s.lines; scheduler = s.scheduler }
+with_current v s = record s { current = v }
 
 abbrev pub with_ready : ℕ → State → State
-with_ready v s = record { enabled = s.enabled; pending = s.pending; delayed = s.delayed; request = s.request; active = s.active; suspended = s.suspended; current = s.current; ready = v; posted = s.posted; copied = s.copied; chosen = s.chosen; tasks = s.tasks; lines = s.lines; scheduler = s.scheduler }
+with_ready v s = record s { ready = v }
 
 abbrev pub with_posted : ℕ → State → State
-with_posted v s = record { enabled = s.enabled; pending = s.pending; delayed = s.delayed; request = s.request; active = s.active; suspended = s.suspended; current = s.current; ready = s.ready; posted = v; copied = s.copied; chosen = s.chosen; tasks = s.tasks; lines = s.lines; scheduler = s.scheduler }
+with_posted v s = record s { posted = v }
 
 abbrev pub with_copied : ℕ → State → State
-with_copied v s = record { enabled = s.enabled; pending = s.pending; delayed = s.delayed; request = s.request; active = s.active; suspended = s.suspended; current = s.current; ready = s.ready; posted = s.posted; copied = v; chosen = s.chosen; tasks = s.tasks; lines = s.lines; scheduler = s.scheduler }
+with_copied v s = record s { copied = v }
 
 abbrev pub with_chosen : Option TaskNo → State → State
-with_chosen v s = record { enabled = s.enabled; pending = s.pending; delayed = s.delayed; request = s.request; active = s.active; suspended = s.suspended; current = s.current; ready = s.ready; posted = s.posted; copied = s.copied; chosen = v; tasks = s.tasks; lines = s.lines; scheduler = s.scheduler }
+with_chosen v s = record s { chosen = v }
 
 abbrev pub with_tasks : List Record → State → State
-with_tasks v s = record { enabled = s.enabled; pending = s.pending; delayed = s.delayed; request = s.request; active = s.active; suspended = s.suspended; current = s.current; ready = s.ready; posted = s.posted; copied = s.copied; chosen = s.chosen; tasks = v; lines = s.lines; scheduler = s.scheduler }
+with_tasks v s = record s { tasks = v }
 
 abbrev pub with_lines : List LinePlace → State → State
-with_lines v s = record { enabled = s.enabled; pending = s.pending; delayed = s.delayed; request = s.request; active = s.active; suspended = s.suspended; current = s.current; ready = s.ready; posted = s.posted; copied = s.copied; chosen = s.chosen; tasks = s.tasks; lines = v; scheduler = s.scheduler }
+with_lines v s = record s { lines = v }
 
 abbrev pub with_scheduler : SchedulerPlace → State → State
-with_scheduler v s = record { enabled = s.enabled; pending = s.pending; delayed = s.delayed; request = s.request; active = s.active; suspended = s.suspended; current = s.current; ready = s.ready; posted = s.posted; copied = s.copied; chosen = s.chosen; tasks = s.tasks; lines = s.lines; scheduler = v }
+with_scheduler v s = record s { scheduler = v }
 
 -- records and places, by number
 
@@ -94,13 +94,13 @@ abbrev pub with_task : TaskNo → Record → State → State
 with_task t r s = with_tasks (slice_set s.tasks t.0 r) s
 
 abbrev pub at_place : TaskPlace → Record → Record
-at_place v r = record { place = v; resume = r.resume; kept = r.kept }
+at_place v r = record r { place = v }
 
 abbrev pub at_resume : Bool → Record → Record
-at_resume v r = record { place = r.place; resume = v; kept = r.kept }
+at_resume v r = record r { resume = v }
 
 abbrev pub at_kept : ℕ → Record → Record
-at_kept v r = record { place = r.place; resume = r.resume; kept = v }
+at_kept v r = record r { kept = v }
 
 -- task t moves to a place
 abbrev pub move : TaskNo → TaskPlace → State → State

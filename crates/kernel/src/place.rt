@@ -1,9 +1,10 @@
-// The places of the routines.
+// The places of the routines. Each has a number of its own by the same cast: a trait or `From` would need as many impls,
+// with a ghost member more each.
 ghost use Rattle.std.specs.Prelude.{◌≡◌};
 ghost use Rattle.kernel.specs.Numbers.{line_place_number, scheduler_place_number, task_place_number};
 
 // A task's place: what its next step does.
-#[derive(Clone, Copy)]
+#[derive(Clone, Copy, Debug, PartialEq, Eq)]
 pub enum TaskPlace {
     // in application code
     Application = 0,
@@ -30,7 +31,7 @@ impl TaskPlace {
 }
 
 // A scheduler's place: what its next step does.
-#[derive(Clone, Copy)]
+#[derive(Clone, Copy, Debug, PartialEq, Eq)]
 pub enum SchedulerPlace {
     // copies the posted events
     Copying = 0,
@@ -59,7 +60,7 @@ impl SchedulerPlace {
 }
 
 // A line's place.
-#[derive(Clone, Copy)]
+#[derive(Clone, Copy, Debug, PartialEq, Eq)]
 pub enum LinePlace {
     Idle = 0,
     // in its handler

@@ -4,7 +4,7 @@ ghost use Rattle.kernel.specs.Numbers.{routine_number};
 
 use numbers::number::{LineNo, TaskNo};
 
-#[derive(Clone, Copy)]
+#[derive(Clone, Copy, Debug, PartialEq, Eq)]
 pub enum Routine {
     // the direct and the delayed scheduler
     Direct,
@@ -15,7 +15,8 @@ pub enum Routine {
 }
 
 impl Routine {
-    // 0 and 1 for the schedulers, 2 + t for task t, 18 + i for the handler of line i; 255 where that is no byte.
+    // 0 and 1 for the schedulers, 2 + t for task t, 18 + i for the handler of line i; 255 where that is no byte. No
+    // `From`, since that number is then no routine's.
     pub fn number(self) -> u8
         ensures { result ≡ routine_number self }
     {

@@ -1,3 +1,4 @@
 pub mod Machines
 pub mod Asked
+pub mod Making
 pub mod Applied

@@ -15,9 +15,11 @@ use kernel::routine::Routine;
 use numbers::number::{EventNo, LineNo, TaskNo};
 use policy::policies::Policy;
 use system::table::TaskRecord;
+use thiserror::Error;
 
 // A task, line or event that the plan lacks, or a position beyond the suspended list.
-#[derive(Clone, Copy)]
+#[derive(Clone, Copy, Debug, PartialEq, Eq, Error)]
+#[error("the plan lacks the task, line or event, or no routine is suspended there")]
 pub struct Unknown;
 
 impl Unknown {
@@ -31,35 +33,17 @@ impl Unknown {
 fn known<T: Copy>(number: u8, count: u8, value: T) -> Result<T, Unknown>
     ensures { result ≡ asked number count value }
 {
-    if number < count {
-        Ok(value)
-    } else {
-        Err(Unknown)
-    }
+    (number < count).then_some(value).ok_or(Unknown)
 }
 
 impl<P: Policy> Machine<P> {
-    fn active_routine(&self) -> Routine
-        ensures is { result ≡ (state_of self.now).active }
-        ensures sound { SoundHoweverLed (board_of self.now) (P.Policy.chosen (policy_of self.now)) (ranks_of self.now) (state_of self.now) }
-    {
-        self.system.state().active
-    }
-
     // The active routine. Whatever list of calls led here: the running task is the policy's choice, inner handlers
     // have the lower rank within the figure, and each line's new raises are entered or pending.
     pub fn active(&self) -> Routine
         ensures is { result ≡ (state_of self.now).active }
         ensures sound { SoundHoweverLed (board_of self.now) (P.Policy.chosen (policy_of self.now)) (ranks_of self.now) (state_of self.now) }
     {
-        self.active_routine()
-    }
-
-    fn depth(&self) -> usize
-        ensures is { result ≡ length (state_of self.now).suspended }
-        ensures figure { result ≤ figure_of (ranks_of self.now) (lines (board_of self.now)) }
-    {
-        self.system.state().suspended.len
+        self.system.state().active
     }
 
     // How many routines are suspended: within the figure.
@@ -67,7 +51,7 @@ impl<P: Policy> Machine<P> {
         ensures is { result ≡ length (state_of self.now).suspended }
         ensures figure { result ≤ figure_of (ranks_of self.now) (lines (board_of self.now)) }
     {
-        self.depth()
+        self.system.state().suspended.len()
     }
 
     // Whether the delayed scheduler is enabled.
@@ -183,9 +167,6 @@ impl<P: Policy> Machine<P> {
     pub fn suspended(&self, position: usize) -> Result<Routine, Unknown>
         ensures { result ≡ found (nth (state_of self.now).suspended position) }
     {
-        match self.system.state().suspended.get(position) {
-            Some(routine) => Ok(routine),
-            None => Err(Unknown),
-        }
+        self.system.state().suspended.get(position).ok_or(Unknown)
     }
 }

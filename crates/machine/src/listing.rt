@@ -1,33 +1,30 @@
 // Applying a list of calls.
-ghost use Rattle.std.specs.Prelude.{◌≡◌, ◌≤◌, ◌++◌, length, drop};
-ghost use Rattle.kernel.specs.Histories.{answers, state_after};
+ghost use Rattle.std.specs.Prelude.{◌≡◌, ◌≤◌, length};
 ghost use Rattle.machine.specs.Applied.{AppliedOrShort};
-ghost use Rattle.machine.specs.Machines.{board_of, plan_of, policy_of, ranks_of, state_of};
+ghost use Rattle.machine.specs.Making.{MakesAll};
 
 use crate::machine::Machine;
 use board::nesting::NestingRule;
 use board::plan::Plan;
 use kernel::call::Call;
 use policy::policies::Policy;
+use thiserror::Error;
 
 impl<P: Policy> Machine<P> {
     fn apply_all(&mut self, calls: &[Call], out: &mut [(u8, u8)])
         requires { length calls.now ≤ length out.old }
-        ensures state { state_of self.new ≡ state_after (board_of self.old) (P.Policy.chosen (policy_of self.old)) (ranks_of self.old) calls.now (state_of self.old) }
-        ensures out { out.new ≡ answers (board_of self.old) (P.Policy.chosen (policy_of self.old)) (ranks_of self.old) calls.now (state_of self.old) ++ drop (length calls.now) out.old }
-        ensures plan { plan_of self.new ≡ plan_of self.old }
-        ensures policy { policy_of self.new ≡ policy_of self.old }
-        ensures ranks { ranks_of self.new ≡ ranks_of self.old }
+        ensures { MakesAll P.Policy.chosen calls.now self.old self.new out.old out.new }
     {
-        for k in 0..calls.len() {
-            let numbers = self.apply(calls[k]);
-            out[k] = numbers;
+        // The entries are written by index: of those that are written through `iter_mut`, a proof would know nothing.
+        for (k, call) in calls.iter().enumerate() {
+            out[k] = self.apply(*call);
         }
     }
 }
 
 // The buffer for the answers is shorter than the list of calls.
-#[derive(Clone, Copy, Debug)]
+#[derive(Clone, Copy, Debug, PartialEq, Eq, Error)]
+#[error("the buffer has room for the answers of {length} calls, and the list is longer")]
 pub struct ShortBuffer {
     pub length: usize,
 }
@@ -46,7 +43,8 @@ impl ShortBuffer {
     }
 }
 
-fn run_list<P: Policy + Drop, N: NestingRule>(
+// Starts a machine, applies the calls, and writes the two numbers of each into the buffer.
+pub fn apply_from_start<P: Policy + Drop, N: NestingRule>(
     plan: Plan,
     policy: P,
     rule: &N,
@@ -63,19 +61,6 @@ fn run_list<P: Policy + Drop, N: NestingRule>(
     Ok(machine)
 }
 
-// Starts a machine, applies the calls, and writes the two numbers of each into the buffer.
-pub fn apply_from_start<P: Policy + Drop, N: NestingRule>(
-    plan: Plan,
-    policy: P,
-    rule: &N,
-    calls: &[Call],
-    out: &mut [(u8, u8)],
-) -> Result<Machine<P>, ShortBuffer>
-    ensures { AppliedOrShort plan policy (P.Policy.chosen policy) (N.NestingRule.ranked rule.now) calls.now out.old out.new result }
-{
-    run_list(plan, policy, rule, calls, out)
-}
-
 #[cfg(test)]
 mod tests {
     use super::*;
@@ -83,20 +68,6 @@ mod tests {
     use numbers::number::{EventNo, LineNo};
     use numbers::set::Set;
     use std::test::Fail;
-
-    fn same(left: &[(u8, u8)], right: &[(u8, u8)]) -> bool {
-        if left.len() != right.len() {
-            return false;
-        }
-        for k in 0..left.len() {
-            let (answer, active) = left[k];
-            let (wanted_answer, wanted_active) = right[k];
-            if answer != wanted_answer || active != wanted_active {
-                return false;
-            }
-        }
-        true
-    }
 
     #[test]
     fn fourteen_calls(rt: HostRuntime) -> Result<(), Fail> {
@@ -146,7 +117,7 @@ mod tests {
         assert!(rt;
             apply_from_start(plan, plan.policy(), &plan.nesting(), &calls, &mut out).is_ok()
         );
-        assert!(rt; same(&out, &wanted));
+        assert_eq!(rt; out, wanted);
         Ok(())
     }
 }

@@ -15,7 +15,8 @@ use policy::policies::Policy;
 use system::system::System;
 
 impl<P: Policy> Machine<P> {
-    fn begin<N: NestingRule>(plan: Plan, policy: P, rule: &N) -> Machine<P>
+    // The machine of a plan, under a policy and a nesting rule. The empty list of calls leads to it.
+    pub fn start<N: NestingRule>(plan: Plan, policy: P, rule: &N) -> Machine<P>
         ensures state { state_of result ≡ start (parts plan) }
         ensures plan { plan_of result ≡ plan }
         ensures policy { policy_of result ≡ policy }
@@ -27,17 +28,5 @@ impl<P: Policy> Machine<P> {
             system: System::start(plan, rule),
             policy,
         }
-    }
-
-    // The machine of a plan, under a policy and a nesting rule. The empty list of calls leads to it.
-    pub fn start<N: NestingRule>(plan: Plan, policy: P, rule: &N) -> Machine<P>
-        ensures state { state_of result ≡ start (parts plan) }
-        ensures plan { plan_of result ≡ plan }
-        ensures policy { policy_of result ≡ policy }
-        ensures ranks { (i : LineNo) → i.0 < 16 → ranks_of result i ≡ N.NestingRule.ranked rule.now i }
-        ensures figure { figure_of (ranks_of result) (lines (parts plan)) ≡ figure_of (N.NestingRule.ranked rule.now) (lines (parts plan)) }
-        ensures leads { Leads (parts plan) (P.Policy.chosen policy) (ranks_of result) [] (state_of result) }
-    {
-        Machine::begin(plan, policy, rule)
     }
 }

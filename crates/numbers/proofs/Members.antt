@@ -1,19 +1,21 @@
 -- The members of a set of bits.
-use Rattle.std.proofs.Common.{◌≡◌, ℕ, zero, suc, ◌+◌, ◌-◌, ◌*◌, ◌/◌, ◌%◌, ◌^◌, ◌<◌, ◌≤◌, Bool, true, false, not, ◌&&◌, ◌||◌, eqb, ltb, ◌⊎◌, sym, refl, ap, ◌∙◌, inl, inr, ⊎_elim, mod-eq_of_lt, one-add, arith, pow_pos}
-use native.Mathlib.Nat.{mod-one, div-eq_of_lt, pow-le-pow_right}
-use lib.Bits.{bit_and, bit_or, bit_xor, and_self, xor_lt, xor_self, xor_zero_r}
-use Rattle.std.proofs.lemmas.Nat.{and_le_l, le-div, pow_below, xor_shr, xor_mod, shr-shr, shr_le, mod-pow-add, and_shr, and_mod, or_shr, or_mod, shl-shr, pow-add}
-use Rattle.std.proofs.lemmas.Bool.{eqb-false, eq-eqb, ne_eqb, cond-true, lt-ltb, ltb-true, le-ltb, cases_lt, cases_Bool, true≢false}
+use Rattle.std.proofs.Common.{◌≡◌, ℕ, zero, suc, ◌+◌, ◌-◌, ◌*◌, ◌/◌, ◌%◌, ◌^◌, ◌<◌, ◌≤◌, min, max, cond, Bool, true, false, not, ◌&&◌, ◌||◌, eqb, ltb, ◌⊎◌, sym, ap, ◌∙◌, inl, inr, ⊎_elim, arith, pow_pos}
+use native.Mathlib.Nat.{div-eq_of_lt, pow-le-pow_right}
+use borrow.Author.Count.{below_more}
+use lib.Bits.{bit_and, bit_or, bit_xor, and_self, xor_lt, xor_self, xor_zero_r, or_zero_r}
+use Rattle.std.proofs.lemmas.Nat.{and-not, and_assoc, and_comm, and_le_l, le-div, shr-shr, shr_le}
+use Rattle.std.proofs.lemmas.Bool.{eqb-false, eqb-true, eq-eqb, ne_eqb, cond-true, cond-false, lt-ltb, ltb-true, le-ltb, cases_lt, cases_Bool, true≢false}
+use Rattle.std.specs.Int.Bits.{xor_add_and}
+use Rattle.std.proofs.Math.Bool.{and-false}
+use Rattle.std.proofs.lemmas.Bool.Decides.{nat_tests}
+use Rattle.std.specs.Int.{bit_at}
+use Rattle.std.proofs.lemmas.Nat.Bits.{bit_at-zero, bit_at_above, same_from_bits_below, bit_at-lt, bit_at_and, bit_at_or, bit_at_xor, and_pow, bit_at-pow_same, bit_at-pow_other}
 use Rattle.numbers.specs.Sets.{has, AllBelow, minus, with_member}
 
 -- a set below 2 ^ n has no member from n on
 pub none_from : (s n i : ℕ) → s < 2 ^ n → n ≤ i → has s i ≡ false
 unfolding has
-none_from s n i small l =
-    let two : 0 < 2 = omega arith in
-    let big : 2 ^ n ≤ 2 ^ i = pow-le-pow_right two l in
-    let lt : s < 2 ^ i = omega arith in
-    ap (λ m. eqb (m % 2) 1) (div-eq_of_lt lt)
+none_from s n i small l = ap (λ m. eqb m 1) (bit_at_above s n i small l)
 
 pub member_small : (s n i : ℕ) → s < 2 ^ n → has s i ≡ true → i < n
 member_small s n i small h =
@@ -24,84 +26,44 @@ member_small s n i small h =
 pub none_in_empty : (i : ℕ) → has 0 i ≡ false
 none_in_empty i = none_from 0 0 i (omega arith) (omega arith)
 
--- no member below k: nothing in the low k bits
-low_none : (s k : ℕ) → ((i : ℕ) → i < k → has s i ≡ false) → s % 2 ^ k ≡ 0
-unfolding has
-low_none s zero h = mod-one s
-low_none s (suc k) h =
-    let before : s % 2 ^ k ≡ 0 = low_none s k (λ i l. h i (omega arith)) in
-    let here : s / 2 ^ k % 2 ≡ 0 = omega (arith, eqb-false (s / 2 ^ k % 2) 1 (h k (omega arith))) in
-    let parts : s % 2 ^ (1 + k) ≡ (s / 2 ^ k % 2) * 2 ^ k + s % 2 ^ k = mod-pow-add s 1 k in
-    let zero_high : (s / 2 ^ k % 2) * 2 ^ k ≡ 0 = rw here (omega arith) in
-    ap (λ n. s % 2 ^ n) (sym (one-add k)) ∙ parts ∙ omega arith
-
 pub no_member_empty : (s n : ℕ) → s < 2 ^ n → ((i : ℕ) → i < n → has s i ≡ false) → s ≡ 0
-no_member_empty s n small h = sym (mod-eq_of_lt small) ∙ low_none s n h
+unfolding has
+no_member_empty s n small h =
+    same_from_bits_below n s 0 small (pow_pos n)
+    (λ i l. omega (arith, eqb-false (bit_at s i) 1 (h i l), bit_at-lt s i, bit_at-zero i))
 
 -- a member below n, or none
 pub member_or_none : (s n : ℕ) → ((i : ℕ) → i < n → has s i ≡ false) ⊎ ((i : ℕ) × (has s i ≡ true))
 member_or_none s zero = inl (λ i l. absurd (omega arith))
-member_or_none s (suc n) =
-    ⊎_elim
-    (λ (h : has s n ≡ true). inr (n, h))
-    (λ (h : has s n ≡ false).
-    ⊎_elim
-    (λ none. inl (λ i l.
-    ⊎_elim
-    (λ (below : i < n). none i below)
-    (λ (le : n ≤ i). let e : i ≡ n = omega arith in ap (has s) e ∙ h)
-    (cases_lt i n)))
-    (λ found. inr found)
-    (member_or_none s n))
-    (cases_Bool (has s n))
-
--- bits below 2, one by one
-and_bit : (x y : ℕ) → x < 2 → y < 2 → eqb (bit_and x y) 1 ≡ (eqb x 1 && eqb y 1)
-and_bit zero zero l m = refl
-and_bit zero (suc zero) l m = refl
-and_bit (suc zero) zero l m = refl
-and_bit (suc zero) (suc zero) l m = refl
-and_bit zero (suc (suc y)) l m = absurd (omega arith)
-and_bit (suc (suc x)) y l m = absurd (omega arith)
-and_bit (suc zero) (suc (suc y)) l m = absurd (omega arith)
-
-or_bit : (x y : ℕ) → x < 2 → y < 2 → eqb (bit_or x y) 1 ≡ (eqb x 1 || eqb y 1)
-or_bit zero zero l m = refl
-or_bit zero (suc zero) l m = refl
-or_bit (suc zero) zero l m = refl
-or_bit (suc zero) (suc zero) l m = refl
-or_bit zero (suc (suc y)) l m = absurd (omega arith)
-or_bit (suc (suc x)) y l m = absurd (omega arith)
-or_bit (suc zero) (suc (suc y)) l m = absurd (omega arith)
+member_or_none s (suc n) = elim (cases_Bool (has s n)) [
+  | inl here ↦ inr (n, here)
+  | inr here ↦ elim (member_or_none s n) [
+    | inl none ↦ inl (λ i l. below_more (λ i. has s i ≡ false) n none here i (omega arith))
+    | inr found ↦ inr found
+  ]
+]
 
 pub has_both : (a b i : ℕ) → has (bit_and a b) i ≡ (has a i && has b i)
 unfolding has
-has_both a b i =
-    let parts : bit_and a b / 2 ^ i % 2 ≡ bit_and (a / 2 ^ i % 2) (b / 2 ^ i % 2) =
-    ap (λ n. n % 2) (and_shr a b i) ∙ and_mod (a / 2 ^ i) (b / 2 ^ i) 1 in
-    ap (λ n. eqb n 1) parts ∙ and_bit (a / 2 ^ i % 2) (b / 2 ^ i % 2) (omega arith) (omega arith)
+has_both a b i = ap (λ n. eqb n 1) (bit_at_and a b i) ∙ least (bit_at a i) (bit_at b i) (bit_at-lt a i) (bit_at-lt b i)
+  where
+    least : (x y : ℕ) → x < 2 → y < 2 → eqb (min x y) 1 ≡ (eqb x 1 && eqb y 1)
+    least x y l m = grind (arith, nat_tests)
 
 pub has_either : (a b i : ℕ) → has (bit_or a b) i ≡ (has a i || has b i)
 unfolding has
-has_either a b i =
-    let parts : bit_or a b / 2 ^ i % 2 ≡ bit_or (a / 2 ^ i % 2) (b / 2 ^ i % 2) =
-    ap (λ n. n % 2) (or_shr a b i) ∙ or_mod (a / 2 ^ i) (b / 2 ^ i) 1 in
-    ap (λ n. eqb n 1) parts ∙ or_bit (a / 2 ^ i % 2) (b / 2 ^ i % 2) (omega arith) (omega arith)
+has_either a b i = ap (λ n. eqb n 1) (bit_at_or a b i) ∙ most (bit_at a i) (bit_at b i) (bit_at-lt a i) (bit_at-lt b i)
+  where
+    most : (x y : ℕ) → x < 2 → y < 2 → eqb (max x y) 1 ≡ (eqb x 1 || eqb y 1)
+    most x y l m = grind (arith, nat_tests)
 
 pub has_single : (n : ℕ) → has (2 ^ n) n ≡ true
 unfolding has
-has_single n = let same : 2 ^ n / 2 ^ n ≡ 1 = ap (λ m. m / 2 ^ n) (omega arith) ∙ shl-shr 1 n in rw same refl
+has_single n = ap (λ m. eqb m 1) (bit_at-pow_same n)
 
 pub has_single_below : (n i : ℕ) → i < n → has (2 ^ n) i ≡ false
 unfolding has
-has_single_below n i l =
-    let k : ℕ = n - i - 1 in
-    let sum : n ≡ (k + 1) + i = omega arith in
-    let split : 2 ^ n ≡ 2 ^ (k + 1) * 2 ^ i = ap (λ m. 2 ^ m) sum ∙ pow-add 2 (k + 1) i in
-    let quotient : 2 ^ n / 2 ^ i ≡ 2 ^ (k + 1) = ap (λ m. m / 2 ^ i) split ∙ shl-shr (2 ^ (k + 1)) i in
-    let even : 2 ^ (k + 1) ≡ 2 ^ k * 2 = pow-add 2 k 1 in
-    let none : 2 ^ n / 2 ^ i % 2 ≡ 0 = omega arith in
-    rw none refl
+has_single_below n i l = ap (λ m. eqb m 1) (bit_at-pow_other n i (λ e. omega arith))
 
 -- nothing from bit k on, exactly if the number is below 2 ^ k
 pub within_shift : (s k : ℕ) → eqb (s / 2 ^ k) 0 ≡ ltb s (2 ^ k)
@@ -153,42 +115,33 @@ within_members s k r small is =
 
 -- one number alone
 pub has_power : (n i : ℕ) → has (2 ^ n) i ≡ eqb i n
+unfolding has
 has_power n i =
     ⊎_elim
-    (λ (below : i < n). has_single_below n i below ∙ sym (ne_eqb i n (λ e. omega arith)))
-    (λ (le : n ≤ i).
-    ⊎_elim
-    (λ (above : n < i).
-    let small : 2 ^ n < 2 ^ (n + 1) = pow_below n (n + 1) (omega arith) in
-    none_from (2 ^ n) (n + 1) i small (omega arith) ∙ sym (ne_eqb i n (λ e. omega arith)))
-    (λ (ge : i ≤ n). let e : i ≡ n = omega arith in ap (has (2 ^ n)) e ∙ (has_single n ∙ sym (eq-eqb i n e)))
-    (cases_lt n i))
-    (cases_lt i n)
+    (λ (e : eqb i n ≡ true). let same = eqb-true i n e in ap (has (2 ^ n)) same ∙ (has_single n ∙ sym e))
+    (λ (e : eqb i n ≡ false). ap (λ m. eqb m 1) (bit_at-pow_other n i (eqb-false i n e)) ∙ sym e)
+    (cases_Bool (eqb i n))
 
 pub has_with_member : (s n i : ℕ) → n < 16 → has (with_member s n) i ≡ (has s i || eqb i n)
 has_with_member s n i low =
     ap (λ v. has v i) (cond-true _ (bit_or s (2 ^ n)) s (lt-ltb n 16 low))
     ∙ (has_either s (2 ^ n) i ∙ ap (λ b. has s i || b) (has_power n i))
 
-less_bit : (x y : ℕ) → x < 2 → y < 2 → eqb (bit_xor x (bit_and x y)) 1 ≡ (eqb x 1 && not (eqb y 1))
-less_bit zero zero l m = refl
-less_bit zero (suc zero) l m = refl
-less_bit (suc zero) zero l m = refl
-less_bit (suc zero) (suc zero) l m = refl
-less_bit zero (suc (suc y)) l m = absurd (omega arith)
-less_bit (suc (suc x)) y l m = absurd (omega arith)
-less_bit (suc zero) (suc (suc y)) l m = absurd (omega arith)
-
 pub has_minus : (a b i : ℕ) → has (minus a b) i ≡ (has a i && not (has b i))
 unfolding has
 has_minus a b i =
-    let x = a / 2 ^ i in
-    let y = b / 2 ^ i in
-    let shifted : bit_xor a (bit_and a b) / 2 ^ i ≡ bit_xor x (bit_and x y) =
-    xor_shr a (bit_and a b) i ∙ ap (bit_xor x) (and_shr a b i) in
-    let parts : bit_xor a (bit_and a b) / 2 ^ i % 2 ≡ bit_xor (x % 2) (bit_and (x % 2) (y % 2)) =
-    ap (λ n. n % 2) shifted ∙ (xor_mod x (bit_and x y) 1 ∙ ap (bit_xor (x % 2)) (and_mod x y 1)) in
-    ap (λ n. eqb n 1) parts ∙ less_bit (x % 2) (y % 2) (omega arith) (omega arith)
+    ap (λ n. eqb n 1) (bit_at_xor a (bit_and a b) i ∙ ap (λ n. (bit_at a i + n) % 2) (bit_at_and a b i))
+    ∙ less (bit_at a i) (bit_at b i) (bit_at-lt a i) (bit_at-lt b i)
+  where
+    less : (x y : ℕ) → x < 2 → y < 2 → eqb ((x + min x y) % 2) 1 ≡ (eqb x 1 && not (eqb y 1))
+    less x y l m = grind (arith, nat_tests)
+
+-- `a & !b`, where b is a number of two bytes too
+pub and_not : (a b : ℕ) → a < 2 ^ 16 → b < 2 ^ 16 → bit_and a (2 ^ 16 - 1 - b) ≡ minus a b
+and_not a b small other =
+    let kept : bit_and a (bit_and a b) ≡ bit_and a b = sym (and_assoc b a a) ∙ ap (λ n. bit_and n b) (and_self a) in
+    let turned : bit_and a (2 ^ 16 - 1 - b) ≡ bit_and (2 ^ 16 - 1 - b) a = and_comm _ _ in
+    omega (arith, kept, turned, and-not 16 b a other small, and_comm b a, xor_add_and a (bit_and a b))
 
 pub minus_self : (a : ℕ) → minus a a ≡ 0
 minus_self a = ap (bit_xor a) (and_self a) ∙ xor_self a
@@ -201,9 +154,44 @@ pub minus_beyond : (s n : ℕ) → s < 2 ^ 16 → 16 ≤ n → minus s (2 ^ n) �
 minus_beyond s n small high =
     let none : bit_and s (2 ^ n) ≡ 0 =
     no_member_empty (bit_and s (2 ^ n)) 16 (omega (arith, and_le_l s (2 ^ n))) (λ i l.
-    has_both s (2 ^ n) i ∙ ap (λ v. has s i && v) (has_power n i ∙ ne_eqb i n (λ e. omega arith)) ∙ and_none (has s i)) in
+    has_both s (2 ^ n) i ∙ ap (λ v. has s i && v) (has_power n i ∙ ne_eqb i n (λ e. omega arith)) ∙ and-false (has s i)) in
     ap (bit_xor s) none ∙ xor_zero_r s
+
+-- the bit of a member, which is 0 for a number above 15
+abbrev pub bit : ℕ → ℕ
+bit n = cond (ltb n 16) (2 ^ n) 0
+
+low_bit : (n : ℕ) → n < 16 → bit n ≡ 2 ^ n
+low_bit n low = cond-true _ _ _ (lt-ltb n 16 low)
+
+no_bit : (n : ℕ) → 16 ≤ n → bit n ≡ 0
+no_bit n high = cond-false _ _ _ (le-ltb n 16 high)
+
+and_none : (s : ℕ) → bit_and s 0 ≡ 0
+and_none s = omega (arith, and_comm s 0, and_le_l 0 s)
+
+pub has_by_bit : (s n : ℕ) → s < 2 ^ 16 → not (eqb (bit_and s (bit n)) 0) ≡ has s n
+unfolding has
+has_by_bit s n small = elim (cases_lt n 16) [
+  | inl low ↦
+      ap (λ b. not (eqb (bit_and s b) 0)) (low_bit n low)
+      ∙ (ap (λ v. not (eqb v 0)) (and_pow s n) ∙ some (bit_at s n) (2 ^ n) (bit_at-lt s n) (pow_pos n))
+  | inr high ↦ ap (λ b. not (eqb (bit_and s b) 0)) (no_bit n high) ∙ (ap (λ v. not (eqb v 0)) (and_none s) ∙ sym (none_from s 16 n small high))
+]
   where
-    and_none : (v : Bool) → (v && false) ≡ false
-    and_none true = refl
-    and_none false = refl
+    some : (x y : ℕ) → x < 2 → 0 < y → not (eqb (x * y) 0) ≡ eqb x 1
+    some zero y l p = let none : zero * y ≡ 0 = omega arith in ap (λ v. not (eqb v 0)) none
+    some (suc zero) y l p = let same : suc zero * y ≡ y = omega arith in ap (λ v. not (eqb v 0)) same ∙ ap not (ne_eqb y 0 (λ e. omega arith))
+    some (suc (suc x)) y l p = absurd (omega arith)
+
+pub with_bit : (s n : ℕ) → bit_or s (bit n) ≡ with_member s n
+with_bit s n = elim (cases_lt n 16) [
+  | inl low ↦ ap (bit_or s) (low_bit n low) ∙ sym (cond-true _ _ _ (lt-ltb n 16 low))
+  | inr high ↦ ap (bit_or s) (no_bit n high) ∙ (or_zero_r s ∙ sym (cond-false _ _ _ (le-ltb n 16 high)))
+]
+
+pub minus_bit : (s n : ℕ) → s < 2 ^ 16 → minus s (bit n) ≡ minus s (2 ^ n)
+minus_bit s n small = elim (cases_lt n 16) [
+  | inl low ↦ ap (minus s) (low_bit n low)
+  | inr high ↦ ap (minus s) (no_bit n high) ∙ (ap (bit_xor s) (and_none s) ∙ (xor_zero_r s ∙ sym (minus_beyond s n small high)))
+]

@@ -1,16 +1,17 @@
 // The numbers of tasks, interrupt lines and events: three types, so that none stands for another.
+// No generic type with a marker of the kind: `TaskNo(3)` is built and matched as it reads.
 ghost use Rattle.std.specs.Prelude.{◌≡◌, ℕ};
 
-#[derive(Clone, Copy, PartialEq, Eq)]
+#[derive(Clone, Copy, Debug, PartialEq, Eq)]
 pub struct TaskNo(pub u8);
 
-#[derive(Clone, Copy, PartialEq, Eq)]
+#[derive(Clone, Copy, Debug, PartialEq, Eq)]
 pub struct LineNo(pub u8);
 
-#[derive(Clone, Copy, Debug)]
+#[derive(Clone, Copy, Debug, PartialEq, Eq)]
 pub struct EventNo(pub u8);
 
-// What a set can hold: something that has a number.
+// What a set can hold: something that has a number. No `Into<u8>`, which has no ghost function for the clauses to name.
 pub trait Numbered {
     ghost number: { Self → ℕ };
 

@@ -12,10 +12,25 @@ use Rattle.numbers.proofs.Members.{no_member_empty, none_in_empty}
 use Rattle.outside.specs.Highest.{highest}
 
 module _ (s : ℕ) where
-  pub highest_none : highest 0 s ≡ None
+  -- no member below n
+  pub highest_none : (n : ℕ) → ((i : ℕ) → i < n → has s i ≡ false) → highest n s ≡ None
   unfolding highest
-  highest_none = refl
+  highest_none zero none = refl
+  highest_none (suc n) none = cond-false _ _ _ (none n (omega arith)) ∙ highest_none n (λ i l. none i (omega arith))
 
+  -- a member below n, and none between
+  pub highest_some : (n : ℕ) (t : TaskNo) → t.0 < n → has s t.0 ≡ true → ((i : ℕ) → t.0 < i → i < n → has s i ≡ false) → highest n s ≡ Some t
+  unfolding highest
+  highest_some zero t l h none = absurd (omega arith)
+  highest_some (suc n) t l h none =
+      ⊎_elim
+      (λ (below : t.0 < n). cond-false _ _ _ (none n below (omega arith)) ∙ highest_some n t below h (λ i a b. none i a (omega arith)))
+      (λ (le : n ≤ t.0).
+      let same : t.0 ≡ n = omega arith in
+      cond-true _ _ _ (sym (ap (has s) same) ∙ h) ∙ ap (λ (m : ℕ). let u : TaskNo = record { 0 = m } in Some u) (sym same))
+      (cases_lt t.0 n)
+
+  -- from a number to the next
   pub highest_yes : (n : ℕ) → has s n ≡ true → highest (n + 1) s ≡ Some (record { 0 = n })
   unfolding highest
   highest_yes n h = rw add-one (cond-true _ _ _ h)

@@ -35,22 +35,9 @@ impl Policy for HighestNumber {
 
     ghost settles = { Prim.search rules };
 
-    fn choose(&self, ready: Set<TaskNo>, current: TaskNo) -> Option<TaskNo> {
-        let _ = current;
-        highest_of(ready)
+    fn choose(&self, ready: Set<TaskNo>, _current: TaskNo) -> Option<TaskNo> {
+        (0..16).rev().map(TaskNo).find(|t| ready.contains(*t))
     }
-}
-
-fn highest_of(set: Set<TaskNo>) -> Option<TaskNo>
-    ensures { result ≡ highest 16 set.bits }
-{
-    let mut best = None;
-    for t in 0..16u8 {
-        if set.contains(TaskNo(t)) {
-            best = Some(TaskNo(t));
-        }
-    }
-    best
 }
 
 // Even lines are urgent, odd ones are not.
@@ -119,7 +106,7 @@ mod tests {
         let current = TaskNo(9);
         for (ready, task) in [(0b1111, 0), (0b1110, 2), (0b1000, 3), (0x8008, 15)] {
             let chosen = chosen_in_layers(&layers, Set::from_bits(ready), current);
-            assert!(rt; chosen == Some(TaskNo(task)));
+            assert_eq!(rt; chosen, Some(TaskNo(task)));
         }
         assert!(rt; chosen_in_layers(&layers, Set::from_bits(0), current).is_none());
     }
@@ -152,10 +139,6 @@ mod tests {
         Ok(())
     }
 
-    fn same(numbers: (u8, u8), answer: u8, active: u8) -> bool {
-        numbers.0 == answer && numbers.1 == active
-    }
-
     // By the plan's own policy task 0 would run, and by its own rule line 0 could not interrupt line 1.
     #[test]
     fn machine_under_both(rt: HostRuntime) -> Result<(), Fail> {
@@ -170,16 +153,16 @@ mod tests {
         })?;
         let mut machine = Machine::start(plan, HighestNumber, &ByParity);
         for _ in 0..7 {
-            assert!(rt; same(machine.go(), 0, 1));
+            assert_eq!(rt; machine.go(), (0, 1));
         }
-        assert!(rt; same(machine.go(), 0, 4));
-        assert!(rt; same(machine.raise(LineNo(1)), 100, 4));
-        assert!(rt; same(machine.enter(LineNo(1)), 0, 19));
-        assert!(rt; same(machine.raise(LineNo(0)), 100, 19));
-        assert!(rt; same(machine.enter(LineNo(0)), 0, 18));
-        assert!(rt; machine.suspended_count() == 2);
-        assert!(rt; same(machine.leave(), 0, 19));
-        assert!(rt; same(machine.leave(), 0, 4));
+        assert_eq!(rt; machine.go(), (0, 4));
+        assert_eq!(rt; machine.raise(LineNo(1)), (100, 4));
+        assert_eq!(rt; machine.enter(LineNo(1)), (0, 19));
+        assert_eq!(rt; machine.raise(LineNo(0)), (100, 19));
+        assert_eq!(rt; machine.enter(LineNo(0)), (0, 18));
+        assert_eq!(rt; machine.suspended_count(), 2);
+        assert_eq!(rt; machine.leave(), (0, 19));
+        assert_eq!(rt; machine.leave(), (0, 4));
         Ok(())
     }
 }

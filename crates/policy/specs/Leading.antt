@@ -1,15 +1,16 @@
 -- The policies `priority` and `shared`: stay among the members of highest priority.
 use Rattle.std.specs.Prelude.{◌≡◌, ℕ, zero, suc, ◌+◌, ◌^◌, ◌<◌, ◌≤◌, max, true, false, ◌⊎◌, List, Some, None, Option, ◌==◌}
 use Rattle.std.proofs.Math.Path.{refl}
-use Rattle.std.proofs.Common.{sym, ap, ◌∙◌, subst, inl, inr, ⊎_elim, add-one, arith}
+use Rattle.std.proofs.Common.{sym, ◌∙◌, subst, inl, inr, ⊎_elim, add-one, arith}
 use Rattle.std.proofs.lemmas.Bool.{cases_Bool, cases_lt, eqb-true, eq-eqb, cond-true, cond-false, and_parts, and_from}
+use borrow.Author.Count.{below_more}
 use Rattle.numbers.specs.declared.number.TaskNo.{TaskNo}
 use Rattle.numbers.specs.Sets.{has}
 use Rattle.policy.specs.Policies.{Exactly, counted, Nearest}
 use Rattle.policy.specs.Priorities.{priority_of, NoneHigher, Foremost, HighestThenLowest, NearestOfHighest, StaysOrNearestOfHighest, highest_below, highest_priority, member_of_priority, leaders, by_priority, share}
 use Rattle.numbers.proofs.Members.{no_member_empty, member_small, none_in_empty}
 use Rattle.numbers.proofs.Gathering.{has_gathered, gathered_small}
-use Rattle.policy.specs.Staying.{Answered, never, exactly_one, task_same, stay_answers, stay_nearest, nearest_same}
+use Rattle.policy.specs.Staying.{Answered, never, exactly_one_or_empty, stay_answers, stay_nearest, nearest_same}
 
 module _ (ps : List ℕ) (s : ℕ) where
   highest_yes : (n : ℕ) → has s n ≡ true → highest_below (suc n) ps s ≡ max (priority_of ps n) (highest_below n ps s)
@@ -20,7 +21,7 @@ module _ (ps : List ℕ) (s : ℕ) where
   unfolding highest_below
   highest_no n h = cond-false _ _ _ h
 
-  -- a loop's steps
+  -- from a number to the next
   pub highest_none : highest_below 0 ps s ≡ 0
   unfolding highest_below
   highest_none = refl
@@ -32,25 +33,14 @@ module _ (ps : List ℕ) (s : ℕ) where
   highest_more_no n h = rw add-one (highest_no n (sym h))
 
   highest_over : (n u : ℕ) → u < n → has s u ≡ true → priority_of ps u ≤ highest_below n ps s
-  highest_over zero u l h = absurd (omega arith)
-  highest_over (suc n) u l h =
-      ⊎_elim
-      (λ (m : has s n ≡ true).
-      let step = highest_yes n m in
-      ⊎_elim
-      (λ (below : u < n). omega (arith, highest_over n u below h))
-      (λ (le : n ≤ u).
-      let e : u ≡ n = omega arith in
-      let same : priority_of ps u ≡ priority_of ps n = ap (priority_of ps) e in
-      omega arith)
-      (cases_lt u n))
-      (λ (m : has s n ≡ false).
-      let step = highest_no n m in
-      ⊎_elim
-      (λ (below : u < n). omega (arith, highest_over n u below h))
-      (λ (le : n ≤ u). let e : u ≡ n = omega arith in absurd (never s n (subst (λ v. has s v ≡ true) e h) m))
-      (cases_lt u n))
-      (cases_Bool (has s n))
+  highest_over zero u l = absurd (omega arith)
+  highest_over (suc n) u l =
+      let step = elim (cases_Bool (has s n)) as (λ _. highest_below n ps s ≤ highest_below (suc n) ps s) [
+        | inl m ↦ omega (arith, highest_yes n m)
+        | inr m ↦ omega (arith, highest_no n m)
+      ] in
+      below_more (λ u. has s u ≡ true → priority_of ps u ≤ highest_below (suc n) ps s) n
+      (λ u below h. omega (arith, highest_over n u below h, step)) (λ m. omega (arith, highest_yes n m)) u (omega arith)
 
   highest_of_none : (n : ℕ) → ((u : ℕ) → u < n → has s u ≡ false) → highest_below n ps s ≡ 0
   highest_of_none zero none = highest_none
@@ -64,29 +54,19 @@ module _ (ps : List ℕ) (s : ℕ) where
 
   reached : (n : ℕ) → Reached n
   reached zero = inl (λ u l. absurd (omega arith))
-  reached (suc n) =
-      ⊎_elim
-      (λ (m : has s n ≡ true).
-      let step = highest_yes n m in
-      ⊎_elim
-      (λ (less : priority_of ps n < highest_below n ps s).
-      ⊎_elim
-      (λ none. absurd (omega (arith, highest_of_none n none)))
-      (λ some. inr (some.0, omega arith, some.2, some.3 ∙ omega arith))
-      (reached n))
-      (λ (most : highest_below n ps s ≤ priority_of ps n). inr (n, omega arith, m, omega arith))
-      (cases_lt (priority_of ps n) (highest_below n ps s)))
-      (λ (m : has s n ≡ false).
-      let step = highest_no n m in
-      ⊎_elim
-      (λ none. inl (λ u l.
-      ⊎_elim
-      (λ (below : u < n). none u below)
-      (λ (le : n ≤ u). let e : u ≡ n = omega arith in ap (has s) e ∙ m)
-      (cases_lt u n)))
-      (λ some. inr (some.0, omega arith, some.2, some.3 ∙ sym step))
-      (reached n))
-      (cases_Bool (has s n))
+  reached (suc n) = elim (cases_Bool (has s n)) [
+    | inl m ↦ elim (cases_lt (priority_of ps n) (highest_below n ps s)) [
+      | inl less ↦ elim (reached n) [
+        | inl none ↦ absurd (omega (arith, highest_of_none n none))
+        | inr some ↦ inr (some.0, omega arith, some.2, some.3 ∙ omega (arith, highest_yes n m))
+      ]
+      | inr most ↦ inr (n, omega arith, m, omega (arith, highest_yes n m))
+    ]
+    | inr m ↦ elim (reached n) [
+      | inl none ↦ inl (λ u l. below_more (λ u. has s u ≡ false) n none m u (omega arith))
+      | inr some ↦ inr (some.0, omega arith, some.2, some.3 ∙ sym (highest_no n m))
+    ]
+  ]
 
   -- a leader is a member that none is higher than
   abbrev Leader : ℕ → Type 0
@@ -156,20 +136,20 @@ module _ (ps : List ℕ) (s : ℕ) where
             (cases_lt u t.0);
       }
 
-  foremost_same : s < 2 ^ 16 → (t u : TaskNo) → Foremost ps s t.0 → Foremost ps s u.0 → t ≡ u
+  foremost_same : s < 2 ^ 16 → (t u : ℕ) → Foremost ps s t → Foremost ps s u → t ≡ u
   foremost_same small t u p q =
-      let lt : t.0 < 16 = member_small s 16 t.0 small p.ready in
-      let lu : u.0 < 16 = member_small s 16 u.0 small q.ready in
-      let a = p.highest u.0 lu q.ready in
-      let b = q.highest t.0 lt p.ready in
-      let d = p.lowest u.0 lu q.ready (omega arith) in
-      let e = q.lowest t.0 lt p.ready (omega arith) in
-      task_same t u (omega arith)
+      let lt : t < 16 = member_small s 16 t small p.ready in
+      let lu : u < 16 = member_small s 16 u small q.ready in
+      let a = p.highest u lu q.ready in
+      let b = q.highest t lt p.ready in
+      let d = p.lowest u lu q.ready (omega arith) in
+      let e = q.lowest t lt p.ready (omega arith) in
+      omega arith
 
   pub by_priority_exactly : s < 2 ^ 16 → Exactly (HighestThenLowest ps s) (by_priority ps s)
   by_priority_exactly small =
-      exactly_one s (HighestThenLowest ps s) (λ t. Foremost ps s t.0) (λ e. e) (λ t f. f) (λ e. e) (λ t f. f)
-      (λ t f. f.ready) (foremost_same small) (by_priority ps s) (share_answers small (record { 0 = 0 })) foremost
+      exactly_one_or_empty s (Foremost ps s) (λ t f. f.ready) (foremost_same small) (by_priority ps s)
+      (share_answers small (record { 0 = 0 })) foremost
 
   module _ (c : ℕ) where
     to_nearest : (t : ℕ) → t < 16 → NearestOfHighest ps s c t → c < 16 → Nearest (leaders ps s) c t
@@ -206,13 +186,11 @@ module _ (ps : List ℕ) (s : ℕ) where
   pub share_exactly : s < 2 ^ 16 → (c : TaskNo) → Exactly (StaysOrNearestOfHighest ps s c) (share ps s c)
   share_exactly small c =
       let from : counted c < 16 = omega arith in
-      exactly_one s (StaysOrNearestOfHighest ps s c) (λ t. NearestOfHighest ps s (counted c) t.0)
-      (λ e. e) (λ t f. f) (λ e. e) (λ t f. f) (λ t f. f.ready)
+      exactly_one_or_empty s (NearestOfHighest ps s (counted c)) (λ t f. f.ready)
       (λ t u p q.
-      let lt : t.0 < 16 = member_small s 16 t.0 small p.ready in
-      let lu : u.0 < 16 = member_small s 16 u.0 small q.ready in
-      task_same t u
-      (nearest_same (leaders ps s) (counted c) t.0 u.0 from leaders_small (to_nearest (counted c) t.0 lt p from)
-      (to_nearest (counted c) u.0 lu q from)))
+      let lt : t < 16 = member_small s 16 t small p.ready in
+      let lu : u < 16 = member_small s 16 u small q.ready in
+      nearest_same (leaders ps s) (counted c) t u from leaders_small (to_nearest (counted c) t lt p from)
+      (to_nearest (counted c) u lu q from))
       (share ps s c) (share_answers small c)
       (λ t e. from_nearest (counted c) t.0 (stay_nearest (leaders ps s) c t e) from)

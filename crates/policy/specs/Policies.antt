@@ -16,6 +16,11 @@ OnlyFrom s answer = (t : TaskNo) → answer ≡ Some t → has s t.0 ≡ true
 abbrev pub Exactly : (Option TaskNo → Type 0) → Option TaskNo → Type 0
 Exactly Fits answer = Fits answer × ((other : Option TaskNo) → Fits other → other ≡ answer)
 
+-- none, and the set is empty; or a task of which this holds
+abbrev pub OneOrEmpty : ℕ → (ℕ → Type 0) → Option TaskNo → Type 0
+OneOrEmpty s One None = s ≡ 0
+OneOrEmpty s One (Some t) = One t.0
+
 -- a current number above 15 counts as 15
 abbrev pub counted : TaskNo → ℕ
 counted c = min c.0 15
@@ -35,8 +40,7 @@ pub record Nearest (s c t : ℕ) : Type 0 where
   pub skips : (u : ℕ) → Between c u t → has s u ≡ false
 
 abbrev pub StaysOrNearest : ℕ → TaskNo → Option TaskNo → Type 0
-StaysOrNearest s c None = s ≡ 0
-StaysOrNearest s c (Some t) = Nearest s (counted c) t.0
+StaysOrNearest s c = OneOrEmpty s (Nearest s (counted c))
 
 -- the first member among n numbers from `at` on, going from 15 to 0
 unfoldable pub first_from : ℕ → ℕ → ℕ → Option TaskNo

@@ -1,9 +1,9 @@
 -- What the policies `priority` and `shared` choose. A list gives the tasks' priorities, from task 0 on;
 -- a task past its end has priority 0.
-use Rattle.std.specs.Prelude.{◌≡◌, ℕ, zero, suc, ◌<◌, ◌≤◌, max, Bool, true, cond, ◌&&◌, List, Some, None, Option, ◌==◌, slice_index}
+use Rattle.std.specs.Prelude.{◌≡◌, ℕ, zero, suc, ◌<◌, ◌≤◌, max, Bool, true, cond, ◌&&◌, List, Option, ◌==◌, slice_index}
 use Rattle.numbers.specs.declared.number.TaskNo.{TaskNo}
 use Rattle.numbers.specs.Sets.{has, gathered}
-use Rattle.policy.specs.Policies.{Between, counted, stay}
+use Rattle.policy.specs.Policies.{Between, OneOrEmpty, counted, stay}
 
 abbrev pub priority_of : List ℕ → ℕ → ℕ
 priority_of ps t = slice_index ps t
@@ -19,8 +19,7 @@ pub record Foremost (ps : List ℕ) (s t : ℕ) : Type 0 where
   pub lowest : (u : ℕ) → u < 16 → has s u ≡ true → priority_of ps u ≡ priority_of ps t → t ≤ u
 
 abbrev pub HighestThenLowest : List ℕ → ℕ → Option TaskNo → Type 0
-HighestThenLowest ps s None = s ≡ 0
-HighestThenLowest ps s (Some t) = Foremost ps s t.0
+HighestThenLowest ps s = OneOrEmpty s (Foremost ps s)
 
 -- shared: a ready task, and none is higher; the current task if that holds of it, and otherwise
 -- each ready task between has a lower priority
@@ -31,8 +30,7 @@ pub record NearestOfHighest (ps : List ℕ) (s c t : ℕ) : Type 0 where
   pub skips : (u : ℕ) → Between c u t → has s u ≡ true → priority_of ps u < priority_of ps t
 
 abbrev pub StaysOrNearestOfHighest : List ℕ → ℕ → TaskNo → Option TaskNo → Type 0
-StaysOrNearestOfHighest ps s c None = s ≡ 0
-StaysOrNearestOfHighest ps s c (Some t) = NearestOfHighest ps s (counted c) t.0
+StaysOrNearestOfHighest ps s c = OneOrEmpty s (NearestOfHighest ps s (counted c))
 
 -- the highest priority of the members below n
 unfoldable pub highest_below : ℕ → List ℕ → ℕ → ℕ

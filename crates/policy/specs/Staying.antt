@@ -4,13 +4,12 @@ use Rattle.std.proofs.Common.{sym, ap, ◌∙◌, subst, ⊎_elim, arith}
 use Rattle.std.proofs.lemmas.Bool.{cases_Bool, cases_lt, cond-true, cond-false, true≢false}
 use Rattle.numbers.specs.declared.number.TaskNo.{TaskNo}
 use Rattle.numbers.specs.Sets.{has}
-use Rattle.policy.specs.Policies.{NoneExactlyWhenEmpty, OnlyFrom, Exactly, counted, up, Nearest, StaysOrNearest, first_from, stay}
+use Rattle.policy.specs.Policies.{NoneExactlyWhenEmpty, OnlyFrom, Exactly, counted, up, Nearest, OneOrEmpty, StaysOrNearest, first_from, stay}
 use Rattle.numbers.proofs.Members.{no_member_empty, none_in_empty, member_small}
 
 -- none, and the set is empty; or a task of the set
 abbrev pub Answered : ℕ → Option TaskNo → Type 0
-Answered s None = s ≡ 0
-Answered s (Some t) = has s t.0 ≡ true
+Answered s = OneOrEmpty s (λ t. has s t ≡ true)
 
 pub never : (s n : ℕ) → has s n ≡ true → has s n ≢ false
 never s n h k = true≢false (sym h ∙ k)
@@ -36,19 +35,26 @@ module _ (s : ℕ) (Fits : Option TaskNo → Type 0) (One : TaskNo → Type 0)
   fits None a f = to_none a
   fits (Some t) a f = to_some t (f t refl)
 
+  none_and_one : (t : TaskNo) → s ≡ 0 → One t → ⊥
+  none_and_one t e h = never 0 t.0 (subst (λ v. has v t.0 ≡ true) e (ready t h)) (none_in_empty t.0)
+
   only : (o other : Option TaskNo) → Fits o → Fits other → other ≡ o
   only None None f g = refl
   only (Some t) (Some u) f g = ap Some (same u t (of_some u g) (of_some t f))
-  only None (Some u) f g =
-      absurd (never 0 u.0 (subst (λ v. has v u.0 ≡ true) (of_none f) (ready u (of_some u g))) (none_in_empty u.0))
-  only (Some t) None f g =
-      absurd (never 0 t.0 (subst (λ v. has v t.0 ≡ true) (of_none g) (ready t (of_some t f))) (none_in_empty t.0))
+  only None (Some u) f g = absurd (none_and_one u (of_none f) (of_some u g))
+  only (Some t) None f g = absurd (none_and_one t (of_none g) (of_some t f))
 
   pub exactly_one : (o : Option TaskNo) → Answered s o → ((t : TaskNo) → o ≡ Some t → One t) → Exactly Fits o
   exactly_one o a f = let h = fits o a f in (h, λ other g. only o other h g)
 
 pub task_same : (t u : TaskNo) → t.0 ≡ u.0 → t ≡ u
 task_same t u e = ap (λ n. record { 0 = n }) e
+
+-- the same where the relation is made of what is said of one task
+pub exactly_one_or_empty : (s : ℕ) (One : ℕ → Type 0) → ((t : ℕ) → One t → has s t ≡ true) → ((t u : ℕ) → One t → One u → t ≡ u) → (o : Option TaskNo) → Answered s o → ((t : TaskNo) → o ≡ Some t → One t.0) → Exactly (OneOrEmpty s One) o
+exactly_one_or_empty s One ready same =
+    exactly_one s (OneOrEmpty s One) (λ t. One t.0) (λ e. e) (λ t f. f) (λ e. e) (λ t f. f)
+    (λ t. ready t.0) (λ t u f g. task_same t u (same t.0 u.0 f g))
 
 pub first_here : (n s at : ℕ) → has s at ≡ true → first_from (suc n) s at ≡ Some (record { 0 = at })
 unfolding first_from
@@ -181,7 +187,6 @@ nearest_same s c t u from small p q =
 
 pub stay_exactly : (s : ℕ) (c : TaskNo) → s < 2 ^ 16 → Exactly (StaysOrNearest s c) (stay s c)
 stay_exactly s c small =
-    exactly_one s (StaysOrNearest s c) (λ t. Nearest s (counted c) t.0) (λ e. e) (λ t n. n) (λ e. e) (λ t n. n)
-    (λ t n. n.ready)
-    (λ t u n m. task_same t u (nearest_same s (counted c) t.0 u.0 (omega arith) small n m))
+    exactly_one_or_empty s (Nearest s (counted c)) (λ t n. n.ready)
+    (λ t u n m. nearest_same s (counted c) t u (omega arith) small n m)
     (stay s c) (stay_answers s c small) (stay_nearest s c)

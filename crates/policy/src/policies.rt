@@ -1,7 +1,7 @@
 // Policies: which of the ready tasks is chosen.
 ghost use Rattle.std.specs.Prelude.{◌≡◌, ℕ, ◌^◌, ◌<◌, Some, Option};
 ghost use Rattle.numbers.specs.declared.number.TaskNo.{TaskNo};
-ghost use Rattle.policy.specs.Policies.{NoneExactlyWhenEmpty, OnlyFrom, Exactly, StaysOrNearest, stay as staying, Favours, favour, stay};
+ghost use Rattle.policy.specs.Policies.{NoneExactlyWhenEmpty, OnlyFrom, Exactly, StaysOrNearest, Favours, favour, stay};
 ghost use Rattle.policy.specs.Priorities.{HighestThenLowest, by_priority, StaysOrNearestOfHighest, share, leaders};
 ghost use Rattle.policy.specs.Staying.{answered_empty, stay_answers, answered_member, stay_settles};
 ghost use Rattle.policy.specs.Leading.{share_answers};
@@ -32,7 +32,7 @@ pub trait Policy {
 pub struct Stay;
 
 impl Policy for Stay {
-    ghost chosen = { λ _ s c. staying s c };
+    ghost chosen = { λ _ s c. stay s c };
 
     ghost empty = { λ p s c small. answered_empty s (stay s c) (stay_answers s c small) };
 
@@ -41,7 +41,7 @@ impl Policy for Stay {
     ghost settles = { λ p s c t small e. stay_settles s c t e };
 
     fn choose(&self, ready: Set<TaskNo>, current: TaskNo) -> Option<TaskNo>
-        ensures is { result ≡ staying ready.bits current }
+        ensures is { result ≡ stay ready.bits current }
         ensures exactly { Exactly (StaysOrNearest ready.bits current) result }
     {
         nearest(ready, current)
@@ -63,12 +63,11 @@ impl Policy for Priority {
 
     ghost settles = { λ p s c t small e. e };
 
-    fn choose(&self, ready: Set<TaskNo>, current: TaskNo) -> Option<TaskNo>
+    fn choose(&self, ready: Set<TaskNo>, _current: TaskNo) -> Option<TaskNo>
         ensures is { result ≡ by_priority self.now.priorities.of ready.bits }
         ensures exactly { Exactly (HighestThenLowest self.now.priorities.of ready.bits) result }
     {
-        let _ = current;
-        self.priorities.foremost(ready)
+        nearest(self.priorities.leaders(ready), TaskNo(0))
     }
 }
 
@@ -91,25 +90,7 @@ impl Policy for Shared {
         ensures is { result ≡ share self.now.priorities.of ready.bits current }
         ensures exactly { Exactly (StaysOrNearestOfHighest self.now.priorities.of ready.bits current) result }
     {
-        self.priorities.nearest_of_highest(ready, current)
-    }
-}
-
-// Asks a policy about the ready tasks of the group if there are any, otherwise about all ready tasks.
-fn ask_below<P: Policy>(
-    below: &P,
-    group: Set<TaskNo>,
-    ready: Set<TaskNo>,
-    current: TaskNo,
-) -> Option<TaskNo>
-    ensures is { result ≡ favour (P.Policy.chosen below.now) group.bits ready.bits current }
-    ensures exactly { Exactly (Favours (P.Policy.chosen below.now) group.bits ready.bits current) result }
-{
-    let favoured = ready.intersection(group);
-    if favoured.bits() == 0 {
-        below.choose(ready, current)
-    } else {
-        below.choose(favoured, current)
+        nearest(self.priorities.leaders(ready), current)
     }
 }
 
@@ -133,6 +114,11 @@ impl<P: Policy> Policy for Favoured<P> {
         ensures is { result ≡ favour (P.Policy.chosen self.now.below) self.now.group.bits ready.bits current }
         ensures exactly { Exactly (Favours (P.Policy.chosen self.now.below) self.now.group.bits ready.bits current) result }
     {
-        ask_below(&self.below, self.group, ready, current)
+        let favoured = ready.intersection(self.group);
+        if favoured.is_empty() {
+            self.below.choose(ready, current)
+        } else {
+            self.below.choose(favoured, current)
+        }
     }
 }

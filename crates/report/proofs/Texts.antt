@@ -1,7 +1,7 @@
 -- How long the texts are.
-use Rattle.std.proofs.Common.{◌≡◌, ℕ, ◌+◌, ◌^◌, ◌<◌, ◌≤◌, List, [], ◌∷◌, ◌++◌, length, decimal, arith}
+use Rattle.std.proofs.Common.{◌≡◌, ℕ, ◌+◌, ◌*◌, ◌^◌, ◌<◌, ◌≤◌, List, [], ◌∷◌, ◌++◌, length, get_or, take, decimal, refl, sym, ap, ◌∙◌, arith}
 use Rattle.std.proofs.lemmas.Fmt.{length-decimal-le}
-use Rattle.std.proofs.lemmas.List.{length-append}
+use Rattle.std.proofs.lemmas.List.{length-append, take_all, take_more}
 use Rattle.text.specs.Texts.{cut}
 use Rattle.text.proofs.Cutting.{cut_after, uncut}
 use Rattle.report.specs.Quotes.{value_line}
@@ -56,13 +56,37 @@ seven_parts a b c d e f g p0 p1 p2 p3 p4 p5 p6 p7 la lb lc ld le lf lg =
     let short = seven_short a b c d e f g la lb lc ld le lf lg in
     uncut 512 (a ++ b ++ c ++ d ++ e ++ f ++ g) (seven a b c d e f g p0 p1 p2 p3 p4 p5 p6 p7) (omega (arith, short))
 
--- and eight
-pub eight_parts :
-    (a b c d e f g h : List ℕ) {w0 w1 w2 w3 w4 w5 w6 w7 w8 : List ℕ} → w0 ≡ [] →
-    w1 ≡ cut (w0 ++ a) → w2 ≡ cut (w1 ++ b) → w3 ≡ cut (w2 ++ c) → w4 ≡ cut (w3 ++ d) → w5 ≡ cut (w4 ++ e) → w6 ≡ cut (w5 ++ f) → w7 ≡ cut (w6 ++ g) → w8 ≡ cut (w7 ++ h) →
-    length a ≤ 31 → length b ≤ 31 → length c ≤ 31 → length d ≤ 31 → length e ≤ 31 → length f ≤ 31 → length g ≤ 31 → length h ≤ 31 →
-    w8 ≡ a ++ b ++ c ++ d ++ e ++ f ++ g ++ h
-eight_parts a b c d e f g h p0 p1 p2 p3 p4 p5 p6 p7 p8 la lb lc ld le lf lg lh =
-    let ahead = a ++ b ++ c ++ d ++ e ++ f ++ g in
-    let short = more ahead h (seven_short a b c d e f g la lb lc ld le lf lg) lh in
-    uncut 512 (ahead ++ h) (cut_after 512 ahead h (seven a b c d e f g p0 p1 p2 p3 p4 p5 p6 p7) p8) (omega (arith, short))
+-- names and values, a line for each
+module _ {N : Type 0} (name : N → List ℕ) where
+  abbrev pub line : N × ℕ → List ℕ
+  line p = value_line (name p.0) p.1
+
+  abbrev pub lines : List ℕ → List (N × ℕ) → List ℕ
+  lines text [] = text
+  lines text (p ∷ ps) = lines (text ++ line p) ps
+
+  pub lines_push : (text : List ℕ) (ps : List (N × ℕ)) (p : N × ℕ) → lines text (ps ++ (p ∷ [])) ≡ lines text ps ++ line p
+  lines_push text [] p = refl
+  lines_push text (x ∷ ps) p = lines_push (text ++ line x) ps p
+
+  abbrev pub Short : List (N × ℕ) → Type 0
+  Short [] = Unit {0}
+  Short (p ∷ ps) = (length (name p.0) ≤ 9) × (p.1 < 2 ^ 64) × Short ps
+
+  pub lines_short : (text : List ℕ) (ps : List (N × ℕ)) → Short ps → length (lines text ps) ≤ length text + 31 * length ps
+  lines_short text [] h = omega arith
+  lines_short text (p ∷ ps) h =
+      let rest = lines_short (text ++ line p) ps h.2 in
+      let here : length (line p) ≤ 31 = line_22 (name p.0) p.1 9 h.0 h.1 in
+      omega (arith, length-append text (line p))
+
+  -- a loop that adds the lines to an empty text
+  pub lines_more :
+      (ps : List (N × ℕ)) (i : ℕ) (none : N × ℕ) {w v : List ℕ} → i < length ps → w ≡ cut (lines [] (take i ps)) → v ≡ cut (w ++ line (get_or ps i none)) →
+      v ≡ cut (lines [] (take (i + 1) ps))
+  lines_more ps i none h so_far added =
+      cut_after 512 (lines [] (take i ps)) (line (get_or ps i none)) so_far added ∙ ap cut (sym (ap (lines []) (take_more ps i none h) ∙ lines_push [] (take i ps) (get_or ps i none)))
+
+  pub lines_all : (ps : List (N × ℕ)) (i : ℕ) {w : List ℕ} → length ps ≤ i → length ps ≤ 16 → Short ps → w ≡ cut (lines [] (take i ps)) → w ≡ lines [] ps
+  lines_all ps i h few short so_far =
+      uncut 512 (lines [] ps) (so_far ∙ ap (λ l. cut (lines [] l)) (take_all i ps h)) (omega (arith, lines_short [] ps short))

@@ -13,9 +13,7 @@ use Rattle.report.specs.declared.quote.Quote.{Quote}
 abbrev pub quote_of : Parts → List ℕ → Quote
 quote_of p rest =
     record {
-      tasks = length p.priorities;
-      lines = length p.levels;
-      events = length p.wakes;
+      counts = record { tasks = length p.priorities; lines = length p.levels; events = length p.wakes };
       policy = p.policy;
       rule = p.rule;
       ranks = different_ranks (plan_rank p) (length p.levels);
@@ -37,9 +35,9 @@ value_line name value = name ++ (32 ∷ []) ++ decimal value ++ (10 ∷ [])
 
 abbrev pub quote_text : Quote → List ℕ
 quote_text q =
-    value_line (codes "tasks") q.tasks
-    ++ value_line (codes "lines") q.lines
-    ++ value_line (codes "events") q.events
+    value_line (codes "tasks") q.counts.tasks
+    ++ value_line (codes "lines") q.counts.lines
+    ++ value_line (codes "events") q.counts.events
     ++ value_line (codes "policy") q.policy
     ++ value_line (codes "rule") q.rule
     ++ value_line (codes "ranks") q.ranks

@@ -1,40 +1,28 @@
 // Why a program refuses its input.
 ghost use Rattle.std.specs.Prelude.{◌≡◌};
-ghost use Rattle.text.specs.Texts.{written};
 ghost use Rattle.report.specs.declared.fault.ProgramFault.TheVariants.{Plan};
-ghost use Rattle.report.specs.Faults.{line_of, program_refusal, refusal_line};
+ghost use Rattle.report.specs.Faults.{program_refusal, refusal_line};
 
-use formats::fault::{PlanFault, Refusal};
+use formats::fault::{Layer, PlanFault, Refusal};
 use text::text::Text;
+use thiserror::Error;
 
-#[derive(Clone, Copy, Debug)]
+#[derive(Clone, Copy, Debug, PartialEq, Eq, Error)]
 pub enum ProgramFault {
-    // more input than a program takes
+    #[error("a program takes at most 65,536 bytes")]
     TooLong,
     // what the plan is refused for
+    #[error("{0}")]
     Plan(PlanFault),
 }
 
+// By hand, since clauses name what it gives, and a derived one has no contract.
 impl From<PlanFault> for ProgramFault {
     ghost from_gives = { λ lower fault. fault ≡ Plan lower };
 
     fn from(lower: PlanFault) -> ProgramFault {
         ProgramFault::Plan(lower)
     }
-}
-
-fn refusal_line(refusal: Refusal) -> Text
-    ensures { written result ≡ line_of refusal }
-{
-    let mut text = Text::new();
-    text.word("refused ");
-    text.number(refusal.number as u64);
-    text.word(" ");
-    text.number(refusal.place as u64);
-    text.word(" ");
-    text.number(refusal.layer as u64);
-    text.word("\n");
-    text
 }
 
 impl ProgramFault {
@@ -45,16 +33,26 @@ impl ProgramFault {
             ProgramFault::TooLong => Refusal {
                 number: 21,
                 place: 65_536,
-                layer: 4,
+                layer: Layer::Program,
             },
             ProgramFault::Plan(fault) => fault.refusal(),
         }
     }
 
-    // The line that a program prints: `refused`, the number, the place and the layer.
+    // The line that a program prints: `refused`, the number, the place and the layer. No `Display`: its contract allows an
+    // error at any time, and a line can't fail.
     pub fn line(&self) -> Text
-        ensures { written result ≡ refusal_line self.now }
+        ensures { result ≡ refusal_line self.now }
     {
-        refusal_line(self.refusal())
+        let refusal = self.refusal();
+        let mut text = Text::new();
+        text.word("refused ");
+        text.number(refusal.number as u64);
+        text.word(" ");
+        text.number(refusal.place as u64);
+        text.word(" ");
+        text.number(refusal.layer.number() as u64);
+        text.word("\n");
+        text
     }
 }

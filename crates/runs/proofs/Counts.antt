@@ -14,7 +14,7 @@ use Rattle.runs.proofs.Stepping.{steps_here, steps_none}
 -- the first of some tests finds nothing, if none does
 none_first : {E : Type 0} (a b : Option E) → or_else a b ≡ None → a ≡ None
 none_first None b h = refl
-none_first (Some e) b h = let z : ◌≡◌ {A = ℕ} 0 1 = cc in absurd (omega arith)
+none_first (Some e) b h = absurd (cc)
 
 -- after `count` steps, none of which is refused
 pub record Counting (bs : List ℕ) (count : ℕ) : Type 0 where
@@ -28,9 +28,6 @@ module _ (bs : List ℕ) where
 
   pub opened_long : first (opening_tests bs) ≡ None → 5 ≤ length bs
   opened_long opened = leb-true 5 (length bs) (needs_met (Short (length bs)) (leb 5 (length bs)) (none_first _ _ opened))
-
-  pub counting_none : 5 ≤ length bs → Counting bs 0
-  counting_none h = record { within = h; same = refl; left = omega arith }
 
   module _ (k : ℕ) (so : Counting bs k) where
     abbrev place : ℕ

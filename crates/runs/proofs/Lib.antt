@@ -1,3 +1,4 @@
+pub mod Mapped
 pub mod Stepping
 pub mod Counts
 pub mod Writing

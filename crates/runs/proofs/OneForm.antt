@@ -1,9 +1,9 @@
 -- Bytes that read as calls are the form of these calls.
-use Rattle.std.proofs.Common.{◌≡◌, ℕ, zero, suc, ◌+◌, ◌-◌, ◌*◌, ◌/◌, ◌%◌, ◌<◌, ◌≤◌, true, ◌&&◌, eqb, leb, List, [], ◌∷◌, ◌++◌, map, length, get_or, drop, Some, None, Ok, Err, Option, sym, refl, ap, ◌∙◌, subst, ⊎_elim, arith}
+use Rattle.std.proofs.Common.{◌≡◌, ℕ, zero, suc, ◌+◌, ◌-◌, ◌*◌, ◌/◌, ◌%◌, ◌<◌, ◌≤◌, true, ◌&&◌, eqb, leb, List, [], ◌∷◌, ◌++◌, map, length, get_or, drop, IfErr, OnErr, OnOk, Some, None, Ok, Err, Option, Result, sym, refl, ap, ◌∙◌, subst, ⊎_elim, arith}
 use Rattle.std.proofs.lemmas.List.{get_or-drop, length-drop, length-map}
 use Rattle.std.proofs.lemmas.Bool.{and_parts, cases_eq, eqb-true, leb-true}
-use Rattle.board.specs.Refusing.{first, needs, or_else, unless}
-use Rattle.board.proofs.Refusing.{needs_met}
+use Rattle.board.specs.Refusing.{ComesFirst, first, needs, or_else, unless}
+use Rattle.board.proofs.Refusing.{first_comes_first, needs_met}
 use Rattle.formats.specs.Decode.{Bytes}
 use Rattle.formats.specs.Wire.{word}
 use Rattle.formats.proofs.Words.{high_byte, low_byte}
@@ -22,7 +22,7 @@ use Rattle.runs.proofs.RoundTrip.{opening_written}
 -- of two tests neither finds anything
 pub neither : {E : Type 0} (a b : Option E) → or_else a b ≡ None → (a ≡ None) × (b ≡ None)
 neither None b h = (refl, h)
-neither (Some e) b h = let z : ◌≡◌ {A = ℕ} 0 1 = cc in absurd (omega arith)
+neither (Some e) b h = absurd (cc)
 
 abbrev step : ℕ → ℕ → ℕ → Step
 step c n w = record { code = c; number = n; set = w }
@@ -41,59 +41,26 @@ no_set w h =
     let b : w / 256 ≡ 0 = eqb-true _ _ (needs_met High (eqb (w / 256) 0) k.0) in
     omega arith
 
-no_number : (n : ℕ) (o : Option StepRefusal) → or_else (needs (eqb n 0) Number) o ≡ None → (n ≡ 0) × (o ≡ None)
-no_number n o h = let l = neither (needs (eqb n 0) Number) o h in (eqb-true _ _ (needs_met Number (eqb n 0) l.0), l.1)
-
 -- a step that passes is the one that stands for its call
 module _ (n w : ℕ) where
   abbrev Back : ℕ → Type 0
   Back c = first (step_tests (step c n w)) ≡ None → step_of (call_of (step c n w)) ≡ step c n w
 
-  back_1 : Back 1
-  back_1 h = ap (step 1 n) (sym (no_set w h))
+  no_number : (o : Option StepRefusal) → or_else (needs (eqb n 0) Number) o ≡ None → (n ≡ 0) × (o ≡ None)
+  no_number o h = let l = neither (needs (eqb n 0) Number) o h in (eqb-true _ _ (needs_met Number (eqb n 0) l.0), l.1)
 
-  back_2 : Back 2
-  back_2 h = ap (step 2 n) (sym (no_set w h))
+  -- of a call that uses a number
+  numbered : (c : ℕ) → or_else (low w) (or_else (high w) None) ≡ None → step c n 0 ≡ step c n w
+  numbered c h = ap (step c n) (sym (no_set w h))
 
-  back_3 : Back 3
-  back_3 h =
-      let l = no_number n (or_else (low w) (or_else (high w) None)) h in
-      let a : n ≡ 0 = l.0 in
-      let b : w ≡ 0 = no_set w l.1 in
-      ap (λ m. step 3 m 0) (sym a) ∙ ap (step 3 n) (sym b)
+  -- of a call that uses neither a number nor a set
+  bare : (c : ℕ) → or_else (needs (eqb n 0) Number) (or_else (low w) (or_else (high w) None)) ≡ None → step c 0 0 ≡ step c n w
+  bare c h =
+      let l = no_number (or_else (low w) (or_else (high w) None)) h in
+      ap (λ m. step c m 0) (sym l.0) ∙ numbered c l.1
 
-  back_4 : Back 4
-  back_4 h =
-      let l = no_number n (or_else (low w) (or_else (high w) None)) h in
-      let a : n ≡ 0 = l.0 in
-      let b : w ≡ 0 = no_set w l.1 in
-      ap (λ m. step 4 m 0) (sym a) ∙ ap (step 4 n) (sym b)
-
-  back_5 : Back 5
-  back_5 h = let a : n ≡ 0 = (no_number n None h).0 in ap (λ m. step 5 m w) (sym a)
-
-  back_6 : Back 6
-  back_6 h =
-      let l = no_number n (or_else (low w) (or_else (high w) None)) h in
-      let a : n ≡ 0 = l.0 in
-      let b : w ≡ 0 = no_set w l.1 in
-      ap (λ m. step 6 m 0) (sym a) ∙ ap (step 6 n) (sym b)
-
-  back_7 : Back 7
-  back_7 h = ap (step 7 n) (sym (no_set w h))
-
-  back_8 : Back 8
-  back_8 h =
-      let l = no_number n (or_else (low w) (or_else (high w) None)) h in
-      let a : n ≡ 0 = l.0 in
-      let b : w ≡ 0 = no_set w l.1 in
-      ap (λ m. step 8 m 0) (sym a) ∙ ap (step 8 n) (sym b)
-
-  back_9 : Back 9
-  back_9 h = ap (step 9 n) (sym (no_set w h))
-
-  back_10 : Back 10
-  back_10 h = ap (step 10 n) (sym (no_set w h))
+  signal : or_else (needs (eqb n 0) Number) None ≡ None → step 5 0 w ≡ step 5 n w
+  signal h = ap (λ m. step 5 m w) (sym (no_number None h).0)
 
   known_code : (c : ℕ) → first (step_tests (step c n w)) ≡ None → (1 ≤ c) × (c ≤ 10)
   known_code c h =
@@ -104,16 +71,16 @@ module _ (n w : ℕ) where
   pub step_back : (c : ℕ) → Back c
   step_back c h =
       let known = known_code c h in
-      ⊎_elim (λ (e : c ≡ 1). subst Back (sym e) back_1 h) (λ (n1 : c ≡ 1 → ⊥).
-      ⊎_elim (λ (e : c ≡ 2). subst Back (sym e) back_2 h) (λ (n2 : c ≡ 2 → ⊥).
-      ⊎_elim (λ (e : c ≡ 3). subst Back (sym e) back_3 h) (λ (n3 : c ≡ 3 → ⊥).
-      ⊎_elim (λ (e : c ≡ 4). subst Back (sym e) back_4 h) (λ (n4 : c ≡ 4 → ⊥).
-      ⊎_elim (λ (e : c ≡ 5). subst Back (sym e) back_5 h) (λ (n5 : c ≡ 5 → ⊥).
-      ⊎_elim (λ (e : c ≡ 6). subst Back (sym e) back_6 h) (λ (n6 : c ≡ 6 → ⊥).
-      ⊎_elim (λ (e : c ≡ 7). subst Back (sym e) back_7 h) (λ (n7 : c ≡ 7 → ⊥).
-      ⊎_elim (λ (e : c ≡ 8). subst Back (sym e) back_8 h) (λ (n8 : c ≡ 8 → ⊥).
-      ⊎_elim (λ (e : c ≡ 9). subst Back (sym e) back_9 h) (λ (n9 : c ≡ 9 → ⊥).
-      ⊎_elim (λ (e : c ≡ 10). subst Back (sym e) back_10 h) (λ (n10 : c ≡ 10 → ⊥).
+      ⊎_elim (λ (e : c ≡ 1). subst Back (sym e) (numbered 1) h) (λ (n1 : c ≡ 1 → ⊥).
+      ⊎_elim (λ (e : c ≡ 2). subst Back (sym e) (numbered 2) h) (λ (n2 : c ≡ 2 → ⊥).
+      ⊎_elim (λ (e : c ≡ 3). subst Back (sym e) (bare 3) h) (λ (n3 : c ≡ 3 → ⊥).
+      ⊎_elim (λ (e : c ≡ 4). subst Back (sym e) (bare 4) h) (λ (n4 : c ≡ 4 → ⊥).
+      ⊎_elim (λ (e : c ≡ 5). subst Back (sym e) signal h) (λ (n5 : c ≡ 5 → ⊥).
+      ⊎_elim (λ (e : c ≡ 6). subst Back (sym e) (bare 6) h) (λ (n6 : c ≡ 6 → ⊥).
+      ⊎_elim (λ (e : c ≡ 7). subst Back (sym e) (numbered 7) h) (λ (n7 : c ≡ 7 → ⊥).
+      ⊎_elim (λ (e : c ≡ 8). subst Back (sym e) (bare 8) h) (λ (n8 : c ≡ 8 → ⊥).
+      ⊎_elim (λ (e : c ≡ 9). subst Back (sym e) (numbered 9) h) (λ (n9 : c ≡ 9 → ⊥).
+      ⊎_elim (λ (e : c ≡ 10). subst Back (sym e) (numbered 10) h) (λ (n10 : c ≡ 10 → ⊥).
       absurd (omega arith)) (cases_eq c 10)) (cases_eq c 9)) (cases_eq c 8)) (cases_eq c 7)) (cases_eq c 6)) (cases_eq c 5)) (cases_eq c 4)) (cases_eq c 3)) (cases_eq c 2)) (cases_eq c 1)
 
 pub steps_back : (place : ℕ) (steps : List Step) → first (steps_tests place steps) ≡ None → map step_of (map call_of steps) ≡ steps
@@ -126,7 +93,7 @@ steps_back place (s ∷ steps) h =
   where
     nothing_found : (p : ℕ) (o : Option StepRefusal) → found_at p o ≡ None → o ≡ None
     nothing_found p None e = refl
-    nothing_found p (Some r) e = let z : ◌≡◌ {A = ℕ} 0 1 = cc in absurd (omega arith)
+    nothing_found p (Some r) e = absurd (cc)
 
 -- steps give their four bytes back
 pub fours_steps : (bs : List ℕ) (n : ℕ) → length bs ≡ 4 * n → ((i : ℕ) → get_or bs i 0 < 256) → fours (steps_in bs) ≡ bs
@@ -180,7 +147,7 @@ module _ (bs : List ℕ) (bytes : Bytes bs) where
 
   unless_ok : {A E : Type 0} (found : Option E) (a b : A) → unless found a ≡ Ok b → (found ≡ None) × (b ≡ a)
   unless_ok None a b h = (refl, let e : b ≡ a = cc in e)
-  unless_ok (Some e) a b h = let z : ◌≡◌ {A = ℕ} 0 1 = cc in absurd (omega arith)
+  unless_ok (Some e) a b h = absurd (cc)
 
   pub one_form : (calls : List Call) → decode_run bs ≡ Ok calls → form_of calls ≡ bs
   one_form calls h =
@@ -222,18 +189,30 @@ form_passes calls few =
 pub no_form : (bs : List ℕ) (f : RunFault) → first (run_tests bs) ≡ Some f → (calls : List Call) → length calls ≤ 65535 → form_of calls ≡ bs → ⊥
 no_form bs f found calls few is =
     let none : first (run_tests bs) ≡ None = ap (λ (b : List ℕ). first (run_tests b)) (sym is) ∙ form_passes calls few in
-    let z : ◌≡◌ {A = ℕ} 0 1 = cc in omega arith
+    cc
 
 counted_err : (o : Option RunFault) (calls : List Call) (f : RunFault) → Err f ≡ counted (unless o calls) → o ≡ Some f
-counted_err None calls f h = let z : ◌≡◌ {A = ℕ} 0 1 = cc in absurd (omega arith)
+counted_err None calls f h = absurd (cc)
 counted_err (Some g) calls f h = let e : g ≡ f = cc in ap Some e
 
 pub counted_refused : (bs : List ℕ) (f : RunFault) → Err f ≡ counted (decode_run bs) → first (run_tests bs) ≡ Some f
 counted_refused bs f h = counted_err (first (run_tests bs)) (map call_of (steps_in (drop 5 bs))) f h
 
+-- what a refused run says
+pub record RefusedRun (bs : List ℕ) (result : Result ℕ RunFault) : Type 0 where
+  pub answer : result ≡ counted (decode_run bs)
+  pub one_form : OnOk result ((calls : List Call) → decode_run bs ≡ Ok calls → form_of calls ≡ bs)
+  pub found : IfErr result (λ fault. ComesFirst (run_tests bs) fault)
+  pub none : OnErr result ((calls : List Call) → length calls ≤ 65535 → form_of calls ≡ bs → ⊥)
+
+pub refused_run : (bs : List ℕ) (result : Result ℕ RunFault) (f : RunFault) → result ≡ Err f → Err f ≡ counted (decode_run bs) → RefusedRun bs result
+refused_run bs result f is why =
+    let found = counted_refused bs f why in
+    subst (RefusedRun bs) (sym is) (record { answer = why; one_form = tt; found = first_comes_first (run_tests bs) f found; none = no_form bs f found })
+
 counted_ok : (o : Option RunFault) (calls : List Call) (n : ℕ) → Ok n ≡ counted (unless o calls) → (o ≡ None) × (n ≡ length calls)
 counted_ok None calls n h = (refl, let e : n ≡ length calls = cc in e)
-counted_ok (Some f) calls n h = let z : ◌≡◌ {A = ℕ} 0 1 = cc in absurd (omega arith)
+counted_ok (Some f) calls n h = absurd (cc)
 
 pub counted_accepted : (bs : List ℕ) (n : ℕ) → Ok n ≡ counted (decode_run bs) → (first (run_tests bs) ≡ None) × (n ≡ length (steps_in (drop 5 bs)))
 counted_accepted bs n h =

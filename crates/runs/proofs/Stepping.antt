@@ -1,13 +1,13 @@
 -- The steps in some bytes, one by one.
-use Rattle.std.proofs.Common.{◌≡◌, ℕ, ◌+◌, ◌<◌, ◌≤◌, Bool, true, false, leb, List, [], ◌∷◌, length, get_or, drop, Some, None, Ok, Err, Option, Result, sym, refl, ap, ◌∙◌, arith}
-use Rattle.std.proofs.lemmas.List.{drop_more, length-drop}
+use Rattle.std.proofs.Common.{◌≡◌, ℕ, ◌+◌, ◌-◌, ◌*◌, ◌<◌, ◌≤◌, Bool, true, false, leb, List, [], ◌∷◌, length, get_or, take, drop, Some, None, Ok, Err, Option, Result, sym, refl, ap, ◌∙◌, arith}
+use Rattle.std.proofs.lemmas.List.{drop_more, get_or-drop, length-drop, take_all}
 use Rattle.std.proofs.lemmas.Bool.{cond-false, cond-true, leb-false, leb-true}
 use Rattle.board.specs.Refusing.{first, unless}
 use Rattle.kernel.specs.declared.call.Call.{Call}
 use Rattle.runs.specs.declared.fault.RunFault.{RunFault}
 use Rattle.runs.specs.declared.fault.StepRefusal.{StepRefusal}
 use Rattle.runs.specs.declared.step.Step.{Step}
-use Rattle.runs.specs.Runs.{found_at, handed_out, next_call, step_at, steps_in}
+use Rattle.runs.specs.Runs.{found_at, handed_out, next_call, next_place, step_at, steps_in}
 use Rattle.runs.specs.Steps.{call_of, step_call, step_tests}
 
 pub steps_here : (bs : List ℕ) (place : ℕ) → place + 4 ≤ length bs → steps_in (drop place bs) ≡ step_at bs place ∷ steps_in (drop (place + 4) bs)
@@ -36,19 +36,33 @@ few (a ∷ b ∷ c ∷ d ∷ bs) h = absurd (omega arith)
 pub steps_none : (bs : List ℕ) (place : ℕ) → length bs < place + 4 → steps_in (drop place bs) ≡ []
 steps_none bs p short = few (drop p bs) (omega (arith, length-drop p bs))
 
+-- what some bytes hold from a place on begins with the step there
+pub step_ahead :
+    (bs ahead : List ℕ) (place set : ℕ) → ahead ≡ take (length bs - place) (drop place bs) → set ≡ get_or ahead 2 0 + get_or ahead 3 0 * 256 →
+    ◌≡◌ {A = Step} (record { code = get_or ahead 0 0; number = get_or ahead 1 0; set = set }) (step_at bs place)
+step_ahead bs ahead p set e s =
+    let all : ahead ≡ drop p bs = e ∙ take_all (length bs - p) (drop p bs) (omega (arith, length-drop p bs)) in
+    let at : (i : ℕ) → get_or ahead i 0 ≡ get_or bs (p + i) 0 = λ i. ap (λ (l : List ℕ). get_or l i 0) all ∙ get_or-drop p bs i 0 in
+    let here : p + 0 ≡ p = omega arith in
+    let a : get_or ahead 0 0 ≡ get_or bs p 0 = at 0 ∙ ap (λ i. get_or bs i 0) here in
+    let b : get_or ahead 1 0 ≡ get_or bs (p + 1) 0 = at 1 in
+    let c : get_or ahead 2 0 ≡ get_or bs (p + 2) 0 = at 2 in
+    let d : get_or ahead 3 0 ≡ get_or bs (p + 3) 0 = at 3 in
+    cc
+
 -- what the next call says of the bytes
 
 after_step : (o : Option StepRefusal) (place : ℕ) (here c : Call) → handed_out place (unless o here) ≡ Ok (Some c) → (o ≡ None) × (c ≡ here)
 after_step None p here c h = (refl, let e : c ≡ here = cc in e)
-after_step (Some r) p here c h = let z : ◌≡◌ {A = ℕ} 0 1 = cc in absurd (omega arith)
+after_step (Some r) p here c h = absurd (cc)
 
 after_fault : (o : Option StepRefusal) (place : ℕ) (here : Call) (f : RunFault) → handed_out place (unless o here) ≡ Err f → found_at place o ≡ Some f
-after_fault None p here f h = let z : ◌≡◌ {A = ℕ} 0 1 = cc in absurd (omega arith)
+after_fault None p here f h = absurd (cc)
 after_fault (Some r) p here f h = cc
 
 no_end : (o : Option StepRefusal) (place : ℕ) (here : Call) → handed_out place (unless o here) ≡ Ok None → ⊥
-no_end None p here h = let z : ◌≡◌ {A = ℕ} 0 1 = cc in omega arith
-no_end (Some r) p here h = let z : ◌≡◌ {A = ℕ} 0 1 = cc in omega arith
+no_end None p here h = cc
+no_end (Some r) p here h = cc
 
 module _ (bs : List ℕ) (place : ℕ) where
   abbrev here : Step
@@ -64,12 +78,17 @@ module _ (bs : List ℕ) (place : ℕ) where
   pub next_some : (c : Call) → next_call bs place ≡ Ok (Some c) → (place + 4 ≤ length bs) × (first (step_tests here) ≡ None) × (c ≡ call_of here)
   next_some c e =
       by_room e (λ l h. let k = after_step (first (step_tests here)) place (call_of here) c h in (l, k.0, k.1))
-      (λ l h. let z : ◌≡◌ {A = ℕ} 0 1 = cc in absurd (omega arith))
+      (λ l h. absurd (cc))
 
   pub next_fault : (f : RunFault) → next_call bs place ≡ Err f → (place + 4 ≤ length bs) × (found_at place (first (step_tests here)) ≡ Some f)
   next_fault f e =
       by_room e (λ l h. (l, after_fault (first (step_tests here)) place (call_of here) f h))
-      (λ l h. let z : ◌≡◌ {A = ℕ} 0 1 = cc in absurd (omega arith))
+      (λ l h. absurd (cc))
 
   pub next_none : next_call bs place ≡ Ok None → length bs < place + 4
   next_none e = by_room e (λ l h. absurd (no_end (first (step_tests here)) place (call_of here) h)) (λ l h. l)
+
+  -- where four bytes are left, no refusal is a call
+  pub next_ok : (o : Option Call) → place + 4 ≤ length bs → next_call bs place ≡ Ok o → (first (step_tests here) ≡ None) × (next_place place (Ok o) ≡ place + 4)
+  next_ok (Some c) room e = ((next_some c e).1, refl)
+  next_ok None room e = absurd (let short = next_none e in omega arith)

@@ -1,6 +1,6 @@
 -- Writing steps, one by one.
-use Rattle.std.proofs.Common.{◌≡◌, ℕ, ◌+◌, ◌*◌, ◌/◌, ◌%◌, ◌<◌, ◌≤◌, List, [], ◌∷◌, ◌++◌, length, get_or, take, drop, Some, None, Ok, Err, sym, refl, ap, ◌∙◌, arith}
-use Rattle.std.proofs.lemmas.List.{drop_all, drop_more, length-take-le, take_all, take_more}
+use Rattle.std.proofs.Common.{◌≡◌, ℕ, ◌+◌, ◌*◌, ◌/◌, ◌%◌, ◌<◌, ◌≤◌, List, [], ◌∷◌, ◌++◌, length, get_or, take, drop, Some, None, Err, sym, refl, ap, ◌∙◌, arith}
+use Rattle.std.proofs.lemmas.List.{drop_more, length-take-le, take_more}
 use Rattle.board.specs.Refusing.{checked, first, or_else, unless}
 use Rattle.formats.specs.Written.{placed}
 use Rattle.formats.proofs.Placing.{placed_more}
@@ -34,9 +34,6 @@ module _ (steps : List Step) (k : ℕ) (so_far : first (steps_tests 5 steps) ≡
   check_fault refusal h bad =
       sym (ap (λ o. unless o (tt {0})) (unrolled h ∙ ap (λ o. or_else (found_at (5 + 4 * k) o) (first (steps_tests (5 + 4 * k + 4) (drop (k + 1) steps)))) bad))
 
-  pub check_end : length steps ≤ k → Ok tt ≡ checked (steps_tests 5 steps)
-  check_end h = sym (ap (λ o. unless o (tt {0})) (so_far ∙ ap (λ (l : List Step). first (steps_tests (5 + 4 * k) l)) (drop_all k steps h)))
-
 pub length_fours : (steps : List Step) → length (fours steps) ≡ 4 * length steps
 length_fours [] = refl
 length_fours (s ∷ steps) = let e = length_fours steps in omega arith
@@ -54,6 +51,3 @@ module _ (o out : List ℕ) (steps : List Step) (k : ℕ) (so_far : out ≡ plac
       let f : fours (take (k + 1) steps) ≡ fours (take k steps) ++ part =
       ap fours (take_more steps k blank h) ∙ fours_push (take k steps) (get_or steps k blank) ∙ ap (λ z. fours (take k steps) ++ z) (sym is) in
       e ∙ ap (λ z. placed z (5 + 4 * k) part) so_far ∙ d ∙ ap (placed o 5) (sym f)
-
-  pub put_all : length steps ≤ k → out ≡ placed o 5 (fours steps)
-  put_all h = so_far ∙ ap (λ z. placed o 5 (fours z)) (take_all k steps h)

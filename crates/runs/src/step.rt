@@ -8,8 +8,8 @@ use kernel::call::Call;
 use numbers::number::{EventNo, LineNo};
 use numbers::set::Set;
 
-// A step as it stands in a run, legal or not.
-#[derive(Clone, Copy)]
+// A step as it stands in a run, legal or not: a code from outside may be no call's.
+#[derive(Clone, Copy, Debug, PartialEq, Eq)]
 pub struct Step {
     pub code: u8,
     pub number: u8,
@@ -20,10 +20,7 @@ impl Step {
     fn uses_number(&self) -> bool
         ensures { result ≡ uses_number self.now.code }
     {
-        match self.code {
-            1 | 2 | 7 | 9 | 10 => true,
-            _ => false,
-        }
+        matches!(self.code, 1 | 2 | 7 | 9 | 10)
     }
 
     pub(crate) fn check(&self) -> Result<(), StepRefusal>
@@ -31,7 +28,7 @@ impl Step {
         ensures sized { self.now.set < 65536 }
     {
         let [low, high] = self.set.to_le_bytes();
-        if self.code < 1 || self.code > 10 {
+        if !(1..=10).contains(&self.code) {
             return Err(StepRefusal::Code);
         }
         if !self.uses_number() && self.number != 0 {
@@ -45,29 +42,28 @@ impl Step {
         }
         Ok(())
     }
+}
 
-    fn named_call(&self) -> Call
-        ensures { result ≡ call_of self.now }
-    {
-        match self.code {
-            1 => Call::Raise(LineNo(self.number)),
-            2 => Call::Enter(LineNo(self.number)),
-            3 => Call::Pend,
-            4 => Call::Go,
-            5 => Call::Signal(Set::from_bits(self.set)),
-            6 => Call::Block,
-            7 => Call::Post(EventNo(self.number)),
-            8 => Call::Leave,
-            9 => Call::Mask(LineNo(self.number)),
-            _ => Call::Unmask(LineNo(self.number)),
+// The call that the step stands for.
+impl TryFrom<Step> for Call {
+    type Error = StepRefusal;
+
+    ghost try_from_gives = { λ step answer. answer ≡ step_call step };
+
+    fn try_from(step: Step) -> Result<Call, StepRefusal> {
+        step.check()?;
+        match step.code {
+            1 => Ok(Call::Raise(LineNo(step.number))),
+            2 => Ok(Call::Enter(LineNo(step.number))),
+            3 => Ok(Call::Pend),
+            4 => Ok(Call::Go),
+            5 => Ok(Call::Signal(Set::from_bits(step.set))),
+            6 => Ok(Call::Block),
+            7 => Ok(Call::Post(EventNo(step.number))),
+            8 => Ok(Call::Leave),
+            9 => Ok(Call::Mask(LineNo(step.number))),
+            10 => Ok(Call::Unmask(LineNo(step.number))),
+            _ => Err(StepRefusal::Code),
         }
-    }
-
-    // The call that the step stands for.
-    pub fn call(&self) -> Result<Call, StepRefusal>
-        ensures { result ≡ step_call self.now }
-    {
-        self.check()?;
-        Ok(self.named_call())
     }
 }

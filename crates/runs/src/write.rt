@@ -15,35 +15,28 @@ fn check_steps(steps: &[Step]) -> Result<(), RunFault>
     ensures answer { result ≡ checked (steps_tests 5 steps.now) }
     ensures sized { OnOk result (TwoByteSets steps.now) }
 {
-    for k in 0..steps.len() {
-        match steps[k].check() {
-            Ok(()) => {}
-            Err(refusal) => return Err(refused_at(5 + 4 * k, refusal)),
-        }
+    for (k, step) in steps.iter().enumerate() {
+        step.check()
+            .map_err(|refusal| refused_at(5 + 4 * k, refusal))?;
     }
     Ok(())
 }
 
-// Writes the part from a place on.
-fn put(out: &mut [u8], at: usize, part: &[u8])
-    requires { at + length part.now ≤ length out.old }
-    ensures { out.new ≡ placed out.old at part.now }
-{
-    let end = at + part.len();
-    out[at..end].copy_from_slice(part);
-}
-
+// By place, since a proof knows nothing of the bytes that a loop over `chunks_exact_mut` writes.
 fn put_steps(out: &mut [u8], steps: &[Step])
     requires { 5 + 4 * length steps.now ≤ length out.old }
     ensures { out.new ≡ placed out.old 5 (fours steps.now) }
 {
-    for k in 0..steps.len() {
-        let [low, high] = steps[k].set.to_le_bytes();
-        put(out, 5 + 4 * k, &[steps[k].code, steps[k].number, low, high]);
+    for (k, step) in steps.iter().enumerate() {
+        let [low, high] = step.set.to_le_bytes();
+        out[5 + 4 * k..9 + 4 * k].copy_from_slice(&[step.code, step.number, low, high]);
     }
 }
 
-fn put_run(steps: &[Step], out: &mut [u8]) -> Result<usize, RunFault>
+// Puts a run of these steps at the front of the buffer and answers its size. What a reader would refuse is refused at the
+// reader's place, and then a buffer that is too short; a refusal leaves the buffer as found, and what stands after the
+// run stays.
+pub fn write_run(steps: &[Step], out: &mut [u8]) -> Result<usize, RunFault>
     ensures answer { result ≡ wrote_run steps.now out.old }
     ensures buffer { out.new ≡ left_run (wrote_run steps.now out.old) steps.now out.old }
     ensures reads_back { IfOk result (λ size. decode_run (take size out.new) ≡ Ok (map call_of steps.now)) }
@@ -57,19 +50,7 @@ fn put_run(steps: &[Step], out: &mut [u8]) -> Result<usize, RunFault>
     if out.len() < size {
         return Err(RunFault::Buffer(out.len()));
     }
-    put(out, 0, b"RUN\x01\x00");
+    out[0..5].copy_from_slice(b"RUN\x01\x00");
     put_steps(out, steps);
     Ok(size)
-}
-
-// Puts a run of these steps at the front of the buffer and answers its size. What a reader would refuse is refused at the
-// reader's place, and then a buffer that is too short; a refusal leaves the buffer as found, and what stands after the
-// run stays.
-pub fn write_run(steps: &[Step], out: &mut [u8]) -> Result<usize, RunFault>
-    ensures answer { result ≡ wrote_run steps.now out.old }
-    ensures buffer { out.new ≡ left_run (wrote_run steps.now out.old) steps.now out.old }
-    ensures reads_back { IfOk result (λ size. decode_run (take size out.new) ≡ Ok (map call_of steps.now)) }
-    ensures first { IfErr result (λ fault. ComesFirst (write_tests steps.now out.old) fault) }
-{
-    put_run(steps, out)
 }

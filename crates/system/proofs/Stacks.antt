@@ -1,6 +1,10 @@
 -- What the slots say of the list of suspended routines.
-use Rattle.std.proofs.Common.{◌≡◌, ℕ, zero, suc, ◌+◌, ◌-◌, ◌<◌, ◌≤◌, true, false, ◌≢◌, List, ◌∷◌, length, get_or, set, Some, None, sym, refl, ap, ◌∙◌, subst, ⊎_elim, add-one, arith, get_or-set_other, get_or-set_same}
-use Rattle.std.proofs.lemmas.Bool.{cases_eq, or_left, or_right, or_from}
+use Rattle.std.proofs.Common.{◌≡◌, ℕ, zero, suc, ◌+◌, ◌-◌, ◌<◌, ◌≤◌, Bool, ◌||◌, ◌≢◌, List, [], ◌∷◌, reverse, length, get_or, set, take, sym, refl, ap, ◌∙◌, add-one, arith, get_or-set_other, get_or-set_same}
+use Rattle.std.proofs.Math.Bool.{or_comm}
+use Rattle.std.proofs.lemmas.List.Folds.{list_any_more}
+use Rattle.std.proofs.Math.Seq.{take-suc}
+use Rattle.std.proofs.lemmas.List.{reverse-append}
+use Rattle.std.specs.List.{list_any, slice_get}
 use Rattle.numbers.specs.declared.number.LineNo.{LineNo}
 use Rattle.kernel.specs.declared.routine.Routine.{Routine}
 use Rattle.kernel.specs.declared.routine.Routine.TheVariants.{Direct}
@@ -27,33 +31,31 @@ length_latest slots (suc n) = ap suc (length_latest slots n)
 pub listed_length : (s : Stack) → length (listed s) ≡ s.len
 listed_length s = length_latest s.slots s.len
 
-pub latest_rest : (slots : List Routine) (n : ℕ) → latest slots (n - 1) ≡ rest (latest slots n)
-latest_rest slots zero = refl
-latest_rest slots (suc n) = let e : suc n - 1 ≡ n = omega arith in rw e
+latest_reversed : (slots : List Routine) (n : ℕ) → n ≤ length slots → latest slots n ≡ reverse (take n slots)
+latest_reversed slots zero h = refl
+latest_reversed slots (suc n) h =
+    let before : latest slots n ≡ reverse (take n slots) = latest_reversed slots n (omega arith) in
+    rw (take-suc slots n Direct h, reverse-append (take n slots) (get_or slots n Direct ∷ [])) (ap (λ rs. get_or slots n Direct ∷ rs) before)
 
-pub nth_in : (slots : List Routine) (n i : ℕ) → i < n → Some (get_or slots (n - 1 - i) Direct) ≡ nth (latest slots n) i
-nth_in slots zero i h = let z : ⊥ = omega arith in absurd z
-nth_in slots (suc n) zero h = let e : suc n - 1 - 0 ≡ n = omega arith in rw e
-nth_in slots (suc n) (suc i) h =
-    let e : suc n - 1 - suc i ≡ n - 1 - i = omega arith in
-    let l : i < n = omega arith in
-    rw e (nth_in slots n i l)
+got : (rs : List Routine) (i : ℕ) → slice_get rs i ≡ nth rs i
+got [] i = refl
+got (r ∷ rs) zero = refl
+got (r ∷ rs) (suc i) = got rs i
 
-pub nth_out : (slots : List Routine) (n i : ℕ) → n ≤ i → None ≡ nth (latest slots n) i
-nth_out slots zero i h = refl
-nth_out slots (suc n) zero h = let z : ⊥ = omega arith in absurd z
-nth_out slots (suc n) (suc i) h = let l : n ≤ i = omega arith in nth_out slots n i l
+pub nth_get : (slots : List Routine) (n i : ℕ) → n ≤ length slots → slice_get (reverse (take n slots)) i ≡ nth (latest slots n) i
+nth_get slots n i h = ap (λ rs. slice_get rs i) (sym (latest_reversed slots n h)) ∙ got (latest slots n) i
 
-pub holds_here : (line : LineNo) (slots : List Routine) (n i : ℕ) → i < n → handles line (get_or slots i Direct) ≡ true → true ≡ nested line (latest slots n)
-holds_here line slots zero i l h = let z : ⊥ = omega arith in absurd z
-holds_here line slots (suc n) i l h =
-    ⊎_elim
-    (λ (e : i ≡ n). sym (or_left _ _ (subst (λ k. handles line (get_or slots k Direct) ≡ true) e h)))
-    (λ (e : i ≡ n → ⊥). sym (or_right (handles line (get_or slots n Direct)) _ (sym (holds_here line slots n i (omega arith) h))))
-    (cases_eq i n)
+holds_any : (line : LineNo) (p : Routine → Bool) → ((r : Routine) → p r ≡ handles line r) → (slots : List Routine) (n : ℕ) → n ≤ length slots → list_any p (take n slots) ≡ nested line (latest slots n)
+holds_any line p same slots zero h = refl
+holds_any line p same slots (suc n) h =
+    let here : p (get_or slots n Direct) ≡ handles line (get_or slots n Direct) = same _ in
+    let before : list_any p (take n slots) ≡ nested line (latest slots n) = holds_any line p same slots n (omega arith) in
+    let more : list_any p (take (n + 1) slots) ≡ (list_any p (take n slots) || p (get_or slots n Direct)) = list_any_more p slots n Direct (omega arith) in
+    let both : (p (get_or slots n Direct) || list_any p (take n slots)) ≡ (handles line (get_or slots n Direct) || nested line (latest slots n)) = cc in
+    ap (λ k. list_any p (take k slots)) (sym (add-one n)) ∙ more ∙ or_comm (list_any p (take n slots)) (p (get_or slots n Direct)) ∙ both
 
-pub holds_next : (line : LineNo) (slots : List Routine) (i : ℕ) → handles line (get_or slots i Direct) ≡ false → nested line (latest slots i) ≡ false → nested line (latest slots (i + 1)) ≡ false
-holds_next line slots i h k = rw (add-one i) (or_from _ _ h k)
+pub holds_among : (line : LineNo) (p : Routine → Bool) → ((r : Routine) → p r ≡ handles line r) → (slots : List Routine) (n : ℕ) → n ≤ length slots → (held : List Routine) → held ≡ take n slots → list_any p held ≡ nested line (latest slots n)
+holds_among line p same slots n h held e = ap (λ rs. list_any p rs) e ∙ holds_any line p same slots n h
 
 pub latest_replace : (slots : List Routine) (n : ℕ) (r : Routine) → 0 < n → n ≤ length slots → latest (set slots (n - 1) r) n ≡ r ∷ rest (latest slots n)
 latest_replace slots zero r some h = let z : ⊥ = omega arith in absurd z

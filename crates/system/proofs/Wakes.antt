@@ -1,7 +1,8 @@
 -- Waking, event by event.
-use Rattle.std.proofs.Common.{◌≡◌, ℕ, zero, suc, ◌+◌, ◌<◌, true, false, List, [], ◌∷◌, map, length, get_or, refl, ap, ◌∙◌, add-one, arith}
+use Rattle.std.proofs.Common.{◌≡◌, ℕ, ◌+◌, ◌<◌, true, false, List, map, length, get_or, refl, ap, ◌∙◌, add-one}
 use lib.Bits.{bit_or}
 use Rattle.std.proofs.lemmas.Bool.{cond-true, cond-false}
+use Rattle.std.proofs.lemmas.List.{get_or-map}
 use Rattle.numbers.specs.declared.number.TaskNo.{TaskNo}
 use Rattle.numbers.specs.declared.set.Set.{Set}
 use Rattle.numbers.specs.Sets.{has}
@@ -20,11 +21,7 @@ pub woken_same : (wakes : List ℕ) (events n : ℕ) → has events n ≡ false 
 unfolding woken_below
 woken_same wakes events n h = ap (λ m. woken_below m wakes events) (add-one n) ∙ cond-false _ _ _ h
 
-pub length_bits : (sets : List (Set TaskNo)) → length (map bits_of sets) ≡ length sets
-length_bits [] = refl
-length_bits (s ∷ sets) = ap suc (length_bits sets)
-
 pub get_bits : (sets : List (Set TaskNo)) (n : ℕ) (d : Set TaskNo) → n < length sets → get_or (map bits_of sets) n 0 ≡ (get_or sets n d).bits
-get_bits [] n d h = let z : ⊥ = omega arith in absurd z
-get_bits (s ∷ sets) zero d h = refl
-get_bits (s ∷ sets) (suc n) d h = get_bits sets n d (omega arith)
+get_bits sets n d h = get_or-map bits_of sets n d 0 h
+
+pub ruleset woken_below_laws = (woken_none, woken_more, woken_same, get_bits)

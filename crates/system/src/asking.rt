@@ -15,7 +15,7 @@ impl System {
         self.state
     }
 
-    // How many tasks, lines and events the plan has.
+    // How many tasks, lines and events the plan has. The plan itself is not shown.
     pub fn counts(&self) -> Counts
         ensures tasks { result.tasks ≡ tasks (board_of self.now) }
         ensures lines { result.lines ≡ lines (board_of self.now) }

@@ -3,10 +3,8 @@
 
 pub mod applying;
 pub mod asking;
-mod ranking;
 pub mod ranks;
 pub mod stack;
-pub mod stacking;
 pub mod starting;
 pub mod state;
 mod steps;

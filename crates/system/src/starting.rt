@@ -52,7 +52,8 @@ impl State {
 }
 
 impl System {
-    fn begin<N: NestingRule>(plan: Plan, rule: &N) -> System
+    // A plan's state at the start, under a nesting rule. The rule is asked once for the rank of each line.
+    pub fn start<N: NestingRule>(plan: Plan, rule: &N) -> System
         ensures state { state_of result ≡ start (parts plan) }
         ensures plan { plan_of result ≡ plan }
         ensures ranks { (i : LineNo) → i.0 < 16 → ranks_of result i ≡ N.NestingRule.ranked rule.now i }
@@ -64,15 +65,5 @@ impl System {
             ranks: RankTable::of_rule(rule),
             state,
         }
-    }
-
-    // A plan's state at the start, under a nesting rule. The rule is asked once for the rank of each line.
-    pub fn start<N: NestingRule>(plan: Plan, rule: &N) -> System
-        ensures state { state_of result ≡ start (parts plan) }
-        ensures plan { plan_of result ≡ plan }
-        ensures ranks { (i : LineNo) → i.0 < 16 → ranks_of result i ≡ N.NestingRule.ranked rule.now i }
-        ensures figure { figure_of (ranks_of result) (lines (parts plan)) ≡ figure_of (N.NestingRule.ranked rule.now) (lines (parts plan)) }
-    {
-        System::begin(plan, rule)
     }
 }

@@ -1,5 +1,6 @@
 // What the machine keeps, and the steps of its routines.
 ghost use Rattle.std.specs.Prelude.{◌≡◌, ◌∷◌, length};
+ghost use Rattle.kernel.specs.Numbers.{answer_number};
 ghost use Rattle.kernel.specs.States.{line_place, task_of};
 ghost use Rattle.kernel.specs.Rules.{in_application, in_handler, nested, return, start_delayed};
 ghost use Rattle.board.specs.Viewed.{parts};
@@ -10,6 +11,7 @@ use crate::stack::Stack;
 use crate::table::{LineTable, TaskTable};
 use crate::waking::woken;
 use board::plan::Plan;
+use kernel::answer::{Accepted, Answer, CallRefusal};
 use kernel::place::{LinePlace, SchedulerPlace, TaskPlace};
 use kernel::routine::Routine;
 use numbers::number::{EventNo, LineNo, TaskNo};
@@ -60,36 +62,20 @@ impl State {
     pub(crate) fn in_application(&self, task: TaskNo) -> bool
         ensures { result ≡ in_application (task_of (view self.now) task).place }
     {
-        match self.tasks.get(task).place {
-            TaskPlace::Application => true,
-            TaskPlace::Adding
-            | TaskPlace::Requesting
-            | TaskPlace::Opening
-            | TaskPlace::Waiting
-            | TaskPlace::Blocking
-            | TaskPlace::Yielding => false,
-        }
+        self.tasks.get(task).place == TaskPlace::Application
     }
 
     pub(crate) fn in_handler(&self, line: LineNo) -> bool
         ensures { result ≡ in_handler (line_place (view self.now) line) }
     {
-        match self.lines.get(line) {
-            LinePlace::Handling => true,
-            LinePlace::Idle | LinePlace::Posted => false,
-        }
+        self.lines.get(line) == LinePlace::Handling
     }
 
     // Whether the line's handler is active or suspended.
     pub(crate) fn nested(&self, line: LineNo) -> bool
         ensures { result ≡ nested line (self.now.active ∷ listed self.now.suspended) }
     {
-        match self.active {
-            Routine::Handler(i) if line.0 == i.0 => true,
-            Routine::Direct | Routine::Delayed | Routine::Task(_) | Routine::Handler(_) => self
-                .suspended
-                .holds(line),
-        }
+        self.active == Routine::Handler(line) || self.suspended.holds(line)
     }
 
     // Starts the delayed scheduler.
@@ -115,64 +101,69 @@ impl State {
         }
     }
 
-    // The next step of the active routine, by its kind and place.
-    pub(crate) fn advance<P: Policy>(&mut self, standing: Standing, plan: &Plan, policy: &P) -> u8
+    // The next step of the active routine, by its kind and place: one match, so that each of them is seen to have its step.
+    pub(crate) fn advance<P: Policy>(
+        &mut self,
+        standing: Standing,
+        plan: &Plan,
+        policy: &P,
+    ) -> Answer
         requires { Room standing (length (listed self.old.suspended)) }
         ensures state { view self.new ≡ (go_at (parts plan.now) (P.Policy.chosen policy.now) standing (view self.old)).0 }
-        ensures answer { result ≡ (go_at (parts plan.now) (P.Policy.chosen policy.now) standing (view self.old)).1 }
+        ensures answer { answer_number result ≡ (go_at (parts plan.now) (P.Policy.chosen policy.now) standing (view self.old)).1 }
     {
         match standing {
-            Standing::Task(_, TaskPlace::Application) => 19,
+            Standing::Task(_, TaskPlace::Application) => Err(CallRefusal::OtherPlace),
             Standing::Task(t, TaskPlace::Adding) => {
                 self.ready = self.ready.union(self.tasks.get(t).kept);
                 self.tasks.move_to(t, TaskPlace::Requesting);
-                0
+                Ok(Accepted::Done)
             }
             Standing::Task(t, TaskPlace::Requesting) => {
                 self.request = true;
                 self.tasks.move_to(t, TaskPlace::Opening);
-                0
+                Ok(Accepted::Done)
             }
             Standing::Task(t, TaskPlace::Opening) => {
                 self.delayed = true;
                 self.tasks.move_to(t, TaskPlace::Waiting);
-                0
+                Ok(Accepted::Done)
             }
             Standing::Task(t, TaskPlace::Waiting) => {
                 if !self.request {
                     self.tasks.move_to(t, TaskPlace::Application);
                 }
-                0
+                Ok(Accepted::Done)
             }
             Standing::Task(t, TaskPlace::Blocking) => {
                 self.ready = self.ready.without(t);
                 self.tasks.move_to(t, TaskPlace::Yielding);
-                0
+                Ok(Accepted::Done)
             }
             Standing::Task(t, TaskPlace::Yielding) => {
                 self.tasks.move_to(t, TaskPlace::Opening);
                 self.suspended.push(Routine::Task(t));
                 self.active = Routine::Direct;
                 self.scheduler = SchedulerPlace::Copying;
-                0
+                Ok(Accepted::Done)
             }
             Standing::Direct(SchedulerPlace::Copying)
             | Standing::Delayed(SchedulerPlace::Copying) => {
                 self.copied = self.posted;
                 self.scheduler = SchedulerPlace::Waking;
-                0
+                Ok(Accepted::Done)
             }
             Standing::Direct(SchedulerPlace::Waking) | Standing::Delayed(SchedulerPlace::Waking) =>
                 {
                     self.ready = self.ready.union(woken(plan.tables().wakes, self.copied));
                     self.scheduler = SchedulerPlace::Clearing;
-                    0
+                    Ok(Accepted::Done)
                 }
             Standing::Direct(SchedulerPlace::Clearing)
             | Standing::Delayed(SchedulerPlace::Clearing) => {
                 self.posted = self.posted.difference(self.copied);
                 self.scheduler = SchedulerPlace::Choosing;
-                0
+                Ok(Accepted::Done)
             }
             Standing::Direct(SchedulerPlace::Choosing)
             | Standing::Delayed(SchedulerPlace::Choosing) => {
@@ -185,17 +176,17 @@ impl State {
                         self.scheduler = SchedulerPlace::Copying;
                     }
                 }
-                0
+                Ok(Accepted::Done)
             }
             Standing::Direct(SchedulerPlace::Noting) => {
                 self.tasks.note_resume(self.current, false);
                 self.scheduler = SchedulerPlace::Switching;
-                0
+                Ok(Accepted::Done)
             }
             Standing::Delayed(SchedulerPlace::Noting) => {
                 self.tasks.note_resume(self.current, true);
                 self.scheduler = SchedulerPlace::Switching;
-                0
+                Ok(Accepted::Done)
             }
             Standing::Direct(SchedulerPlace::Switching)
             | Standing::Delayed(SchedulerPlace::Switching) => {
@@ -204,25 +195,26 @@ impl State {
                     self.suspended.replace(Routine::Task(t));
                 }
                 self.scheduler = SchedulerPlace::Loading;
-                0
+                Ok(Accepted::Done)
             }
             Standing::Direct(SchedulerPlace::Loading)
             | Standing::Delayed(SchedulerPlace::Loading) => {
                 self.delayed = self.tasks.get(self.current).resume;
                 self.scheduler = SchedulerPlace::Returning;
-                0
+                Ok(Accepted::Done)
             }
             Standing::Direct(SchedulerPlace::Returning)
             | Standing::Delayed(SchedulerPlace::Returning) => {
                 self.go_back();
-                0
+                Ok(Accepted::Done)
             }
             Standing::Handler(i, LinePlace::Posted) => {
                 self.request = true;
                 self.lines.set(i, LinePlace::Handling);
-                0
+                Ok(Accepted::Done)
             }
-            Standing::Handler(_, LinePlace::Idle) | Standing::Handler(_, LinePlace::Handling) => 19,
+            Standing::Handler(_, LinePlace::Idle) | Standing::Handler(_, LinePlace::Handling) =>
+                Err(CallRefusal::OtherPlace),
         }
     }
 }

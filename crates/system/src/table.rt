@@ -34,6 +34,7 @@ impl TaskRecord {
     }
 }
 
+#[tactic(auto, using(crate::proofs::Noting::noted_set))]
 impl TaskTable {
     pub(crate) fn new() -> TaskTable
         ensures { noted_all result.records ≡ replicate 16 fresh }
@@ -43,25 +44,21 @@ impl TaskTable {
         }
     }
 
-    fn record(&self, task: TaskNo) -> TaskRecord
-        ensures { noted result ≡ slice_index_or (noted_all self.now.records) task.0 fresh }
-    {
-        match self.records.get(task.0 as usize) {
-            Some(record) => *record,
-            None => TaskRecord::fresh(),
-        }
-    }
-
     pub fn get(&self, task: TaskNo) -> TaskRecord
         ensures { noted result ≡ slice_index_or (noted_all self.now.records) task.0 fresh }
     {
-        self.record(task)
+        self.records
+            .get(task.0 as usize)
+            .copied()
+            .unwrap_or(TaskRecord::fresh())
     }
 
+    // The record is lent by its index: a proof knows nothing of what a slice's `get_mut` leaves. Each change is named by what
+    // it writes: one function that takes a closure would owe clauses on the closure, longer than these two lines.
     pub(crate) fn move_to(&mut self, task: TaskNo, place: TaskPlace)
         ensures { noted_all self.new.records ≡ slice_set (noted_all self.old.records) task.0 (at_place place (slice_index_or (noted_all self.old.records) task.0 fresh)) }
     {
-        if let Some(_) = self.records.get(task.0 as usize) {
+        if (task.0 as usize) < self.records.len() {
             let record = &mut self.records[task.0 as usize];
             record.place = place;
         }
@@ -70,7 +67,7 @@ impl TaskTable {
     pub(crate) fn note_resume(&mut self, task: TaskNo, resume: bool)
         ensures { noted_all self.new.records ≡ slice_set (noted_all self.old.records) task.0 (at_resume resume (slice_index_or (noted_all self.old.records) task.0 fresh)) }
     {
-        if let Some(_) = self.records.get(task.0 as usize) {
+        if (task.0 as usize) < self.records.len() {
             let record = &mut self.records[task.0 as usize];
             record.resume = resume;
         }
@@ -80,7 +77,7 @@ impl TaskTable {
     pub(crate) fn keep(&mut self, task: TaskNo, kept: Set<TaskNo>)
         ensures { noted_all self.new.records ≡ slice_set (noted_all self.old.records) task.0 (at_place TaskPlace.Adding (at_kept kept.bits (slice_index_or (noted_all self.old.records) task.0 fresh))) }
     {
-        if let Some(_) = self.records.get(task.0 as usize) {
+        if (task.0 as usize) < self.records.len() {
             let record = &mut self.records[task.0 as usize];
             record.kept = kept;
             record.place = TaskPlace::Adding;
@@ -105,16 +102,17 @@ impl LineTable {
     pub fn get(&self, line: LineNo) -> LinePlace
         ensures { result ≡ slice_index_or self.now.places line.0 Idle }
     {
-        match self.places.get(line.0 as usize) {
-            Some(place) => *place,
-            None => LinePlace::Idle,
-        }
+        self.places
+            .get(line.0 as usize)
+            .copied()
+            .unwrap_or(LinePlace::Idle)
     }
 
+    // By index, as in `TaskTable`.
     pub(crate) fn set(&mut self, line: LineNo, place: LinePlace)
         ensures { self.new.places ≡ slice_set self.old.places line.0 place }
     {
-        if let Some(_) = self.places.get(line.0 as usize) {
+        if (line.0 as usize) < self.places.len() {
             self.places[line.0 as usize] = place;
         }
     }

@@ -7,14 +7,15 @@ use numbers::number::{EventNo, TaskNo};
 use numbers::set::Set;
 
 // The union of the wake sets of some events.
+#[tactic(auto, using(crate::proofs::Wakes::woken_below_laws))]
 pub(crate) fn woken(wakes: &[Set<TaskNo>], events: Set<EventNo>) -> Set<TaskNo>
     requires { length wakes.now ≤ 16 }
     ensures { result.bits ≡ wake (map bits_of wakes.now) events.bits }
 {
     let mut tasks = Set::from_bits(0);
-    for e in 0..wakes.len() {
+    for (e, wake) in wakes.iter().enumerate() {
         if events.contains(EventNo(e as u8)) {
-            tasks = tasks.union(wakes[e]);
+            tasks = tasks.union(*wake);
         }
     }
     tasks

@@ -1,6 +1,8 @@
 -- Text after text, where there is room for the first bytes only.
-use Rattle.std.proofs.Common.{◌≡◌, ℕ, zero, suc, ◌+◌, ◌<◌, ◌≤◌, List, [], ◌∷◌, ◌++◌, length, take, set, sym, refl, ap, ◌∙◌, append_assoc, append-nil, arith}
-use Rattle.std.proofs.lemmas.List.{length_push, length-take, length-take-le, take_all, take-append-le, take_more_set}
+use Rattle.std.proofs.Common.{◌≡◌, ℕ, zero, suc, ◌+◌, ◌-◌, ◌<◌, ◌≤◌, List, [], ◌∷◌, ◌++◌, length, take, set, min, ⊎_elim, sym, refl, ap, ◌∙◌, append_assoc, arith}
+use Rattle.std.proofs.Math.Seq.{take-append-add}
+use Rattle.std.proofs.lemmas.Bool.{cases_lt}
+use Rattle.std.proofs.lemmas.List.{length_push, length-take-le, take_all, take-append-le, take_more_set}
 
 pub cut_twice : (n : ℕ) (xs ys : List ℕ) → take n (take n xs ++ ys) ≡ take n (xs ++ ys)
 cut_twice zero xs ys = refl
@@ -24,10 +26,18 @@ no_more n len bs cs same full =
     let le : n ≤ length bs = omega arith in
     all ∙ sym (take_all n bs (omega arith)) ∙ sym (take-append-le n bs cs le) ∙ ap (λ ws. take n (ws ++ cs)) (sym all)
 
-pub cut_short : (n len : ℕ) (bs : List ℕ) → len ≤ n → take len bs ≡ take n (take len bs ++ [])
-cut_short n len bs fits =
-    let short : length (take len bs) ≤ n = omega (arith, length-take len bs) in
-    sym (take_all n _ short) ∙ ap (take n) (sym (append-nil (take len bs)))
+-- of what is added there is room for the first bytes
+pub room_for : (n len : ℕ) (bs ws : List ℕ) → length bs ≡ n → len ≤ n → take len bs ++ take (min (length ws) (n - len)) ws ≡ take n (take len bs ++ ws)
+room_for n len bs ws same fits =
+    let short : length (take len bs) ≡ len = length-take-le len bs (omega arith) in
+    let whole : length (take len bs) + (n - len) ≡ n = omega arith in
+    let first : take (min (length ws) (n - len)) ws ≡ take (n - len) ws =
+    ⊎_elim
+    (λ (few : length ws < n - len). take_all _ ws (omega arith) ∙ sym (take_all (n - len) ws (omega arith)))
+    (λ (many : n - len ≤ length ws). ap (λ k. take k ws) (omega arith))
+    (cases_lt (length ws) (n - len)) in
+    ap (λ zs. take len bs ++ zs) first
+    ∙ (sym (take-append-add (take len bs) ws (n - len)) ∙ ap (λ k. take k (take len bs ++ ws)) whole)
 
 -- the same of a text that began empty
 pub cut_after : (n : ℕ) (xs ys : List ℕ) {ws vs : List ℕ} → ws ≡ take n xs → vs ≡ take n (ws ++ ys) → vs ≡ take n (xs ++ ys)

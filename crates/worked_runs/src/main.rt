@@ -2,34 +2,16 @@
 // test would find something too, the first one wins. Then runs whose last call is accepted, and refused questions.
 #![tactic(auto)]
 
+use board::choosing::PlanPolicy;
 use board::plan::{Plan, Tables};
-use board::refusal::PlanRefusal;
 use kernel::call::Call;
 use machine::asking::Unknown;
 use machine::listing::apply_from_start;
 use machine::machine::Machine;
 use numbers::number::{EventNo, LineNo, TaskNo};
 use numbers::set::Set;
+use policy::policies::Favoured;
 use std::io;
-
-// Why the program ends with status 1.
-#[derive(Debug, Drop)]
-enum Stop {
-    Io(io::Error),
-    Plan(PlanRefusal),
-}
-
-impl From<io::Error> for Stop {
-    fn from(e: io::Error) -> Stop {
-        Stop::Io(e)
-    }
-}
-
-impl From<PlanRefusal> for Stop {
-    fn from(refusal: PlanRefusal) -> Stop {
-        Stop::Plan(refusal)
-    }
-}
 
 fn raise(line: u8) -> Call {
     Call::Raise(LineNo(line))
@@ -55,14 +37,20 @@ fn signal(set: u16) -> Call {
     Call::Signal(Set::from_bits(set))
 }
 
-// The two numbers of the last call. Eight steps of the scheduler come first if task 0 is to be running.
-fn last(plan: &Plan, running: bool, calls: &[Call]) -> (u8, u8) {
+// The machine of the plan. Eight steps of the scheduler come first if task 0 is to be running.
+fn started(plan: &Plan, running: bool) -> Machine<Favoured<PlanPolicy>> {
     let mut machine = Machine::start(*plan, plan.policy(), &plan.nesting());
     if running {
         for _ in 0..8 {
             machine.go();
         }
     }
+    machine
+}
+
+// The two numbers of the last call.
+fn last(plan: &Plan, running: bool, calls: &[Call]) -> (u8, u8) {
+    let mut machine = started(plan, running);
     let mut numbers = (0, 0);
     for call in calls {
         numbers = machine.apply(*call);
@@ -70,69 +58,49 @@ fn last(plan: &Plan, running: bool, calls: &[Call]) -> (u8, u8) {
     numbers
 }
 
-fn show(rt: &impl Print, name: &str, numbers: (u8, u8)) -> io::Result<()> {
-    let (answer, active) = numbers;
-    println!(rt; "{name} {answer} {active}")
+// A run: its name in the output, whether task 0 is running when its calls come, and the calls.
+type Run<'a> = (&'a str, bool, &'a [Call]);
+
+// The runs, each with the two numbers of its last call.
+fn show(rt: &impl Print, plan: &Plan, runs: &[Run]) -> io::Result<()> {
+    for (name, running, calls) in runs {
+        let (answer, active) = last(plan, *running, calls);
+        println!(rt; "{name} {answer} {active}")?;
+    }
+    Ok(())
 }
 
 fn lines(rt: &impl Print, plan: &Plan) -> io::Result<()> {
-    show(rt, "raise", last(plan, false, &[raise(3)]))?;
-    show(rt, "enter", last(plan, false, &[enter(3)]))?;
-    show(rt, "enter", last(plan, false, &[enter(0)]))?;
-    show(rt, "enter", last(plan, true, &[mask(0), enter(0)]))?;
-    show(
-        rt,
-        "enter",
-        last(plan, true, &[raise(0), mask(0), enter(0)]),
-    )?;
-    show(
-        rt,
-        "enter",
-        last(
-            plan,
+    let runs: &[Run] = &[
+        ("raise", false, &[raise(3)]),
+        ("enter", false, &[enter(3)]),
+        ("enter", false, &[enter(0)]),
+        ("enter", true, &[mask(0), enter(0)]),
+        ("enter", true, &[raise(0), mask(0), enter(0)]),
+        (
+            "enter",
             false,
             &[raise(0), enter(0), raise(0), mask(0), enter(0)],
         ),
-    )?;
-    show(
-        rt,
-        "enter",
-        last(plan, false, &[raise(0), enter(0), raise(0), enter(0)]),
-    )?;
-    show(
-        rt,
-        "enter",
-        last(
-            plan,
+        ("enter", false, &[raise(0), enter(0), raise(0), enter(0)]),
+        (
+            "enter",
             false,
             &[raise(1), enter(1), raise(0), enter(0), raise(1), enter(1)],
         ),
-    )?;
-    show(
-        rt,
-        "enter",
-        last(plan, false, &[raise(0), raise(1), enter(0), enter(1)]),
-    )?;
-    show(
-        rt,
-        "enter",
-        last(plan, false, &[raise(0), raise(2), enter(0), enter(2)]),
-    )
+        ("enter", false, &[raise(0), raise(1), enter(0), enter(1)]),
+        ("enter", false, &[raise(0), raise(2), enter(0), enter(2)]),
+    ];
+    show(rt, plan, runs)
 }
 
 fn pending(rt: &impl Print, plan: &Plan) -> io::Result<()> {
-    show(rt, "pend", last(plan, false, &[Call::Pend]))?;
-    show(rt, "pend", last(plan, true, &[Call::Block, Call::Pend]))?;
-    show(
-        rt,
-        "pend",
-        last(plan, true, &[signal(2), Call::Go, Call::Go, Call::Pend]),
-    )?;
-    show(
-        rt,
-        "pend",
-        last(
-            plan,
+    let runs: &[Run] = &[
+        ("pend", false, &[Call::Pend]),
+        ("pend", true, &[Call::Block, Call::Pend]),
+        ("pend", true, &[signal(2), Call::Go, Call::Go, Call::Pend]),
+        (
+            "pend",
             true,
             &[
                 signal(2),
@@ -143,21 +111,13 @@ fn pending(rt: &impl Print, plan: &Plan) -> io::Result<()> {
                 Call::Pend,
             ],
         ),
-    )?;
-    show(
-        rt,
-        "pend",
-        last(
-            plan,
+        (
+            "pend",
             false,
             &[raise(0), enter(0), post(0), Call::Go, Call::Pend],
         ),
-    )?;
-    show(
-        rt,
-        "pend",
-        last(
-            plan,
+        (
+            "pend",
             false,
             &[
                 raise(0),
@@ -168,159 +128,131 @@ fn pending(rt: &impl Print, plan: &Plan) -> io::Result<()> {
                 Call::Pend,
             ],
         ),
-    )
+    ];
+    show(rt, plan, runs)
 }
 
 fn going(rt: &impl Print, plan: &Plan) -> io::Result<()> {
-    show(rt, "go", last(plan, true, &[Call::Go]))?;
-    show(rt, "go", last(plan, false, &[raise(0), enter(0), Call::Go]))
+    let runs: &[Run] = &[
+        ("go", true, &[Call::Go]),
+        ("go", false, &[raise(0), enter(0), Call::Go]),
+    ];
+    show(rt, plan, runs)
 }
 
 fn signals(rt: &impl Print, plan: &Plan) -> io::Result<()> {
-    show(rt, "signal", last(plan, false, &[signal(4)]))?;
-    show(
-        rt,
-        "signal",
-        last(plan, false, &[raise(0), enter(0), signal(1)]),
-    )?;
-    show(rt, "signal", last(plan, true, &[signal(2), signal(4)]))?;
-    show(rt, "signal", last(plan, true, &[signal(4)]))?;
-    show(rt, "block", last(plan, false, &[Call::Block]))?;
-    show(rt, "block", last(plan, true, &[Call::Block, Call::Block]))
+    let runs: &[Run] = &[
+        ("signal", false, &[signal(4)]),
+        ("signal", false, &[raise(0), enter(0), signal(1)]),
+        ("signal", true, &[signal(2), signal(4)]),
+        ("signal", true, &[signal(4)]),
+        ("block", false, &[Call::Block]),
+        ("block", true, &[Call::Block, Call::Block]),
+    ];
+    show(rt, plan, runs)
 }
 
 fn posts(rt: &impl Print, plan: &Plan) -> io::Result<()> {
-    show(rt, "post", last(plan, false, &[post(1)]))?;
-    show(rt, "post", last(plan, true, &[post(0)]))?;
-    show(
-        rt,
-        "post",
-        last(plan, false, &[raise(0), enter(0), post(0), post(1)]),
-    )?;
-    show(
-        rt,
-        "post",
-        last(plan, false, &[raise(0), enter(0), post(1)]),
-    )?;
-    show(rt, "leave", last(plan, false, &[Call::Leave]))?;
-    show(
-        rt,
-        "leave",
-        last(plan, false, &[raise(0), enter(0), post(0), Call::Leave]),
-    )
+    let runs: &[Run] = &[
+        ("post", false, &[post(1)]),
+        ("post", true, &[post(0)]),
+        ("post", false, &[raise(0), enter(0), post(0), post(1)]),
+        ("post", false, &[raise(0), enter(0), post(1)]),
+        ("leave", false, &[Call::Leave]),
+        ("leave", false, &[raise(0), enter(0), post(0), Call::Leave]),
+    ];
+    show(rt, plan, runs)
 }
 
 fn masks(rt: &impl Print, plan: &Plan) -> io::Result<()> {
-    show(rt, "mask", last(plan, false, &[mask(3)]))?;
-    show(rt, "mask", last(plan, true, &[Call::Block, mask(3)]))?;
-    show(
-        rt,
-        "mask",
-        last(plan, false, &[raise(0), enter(0), post(0), mask(3)]),
-    )?;
-    show(rt, "mask", last(plan, true, &[mask(3)]))
+    let runs: &[Run] = &[
+        ("mask", false, &[mask(3)]),
+        ("mask", true, &[Call::Block, mask(3)]),
+        ("mask", false, &[raise(0), enter(0), post(0), mask(3)]),
+        ("mask", true, &[mask(3)]),
+    ];
+    show(rt, plan, runs)
 }
 
 fn unmasks(rt: &impl Print, plan: &Plan) -> io::Result<()> {
-    show(rt, "unmask", last(plan, false, &[unmask(3)]))?;
-    show(rt, "unmask", last(plan, true, &[Call::Block, unmask(3)]))?;
-    show(
-        rt,
-        "unmask",
-        last(plan, false, &[raise(0), enter(0), post(0), unmask(3)]),
-    )?;
-    show(
-        rt,
-        "unmask",
-        last(plan, false, &[raise(0), enter(0), unmask(3)]),
-    )
+    let runs: &[Run] = &[
+        ("unmask", false, &[unmask(3)]),
+        ("unmask", true, &[Call::Block, unmask(3)]),
+        ("unmask", false, &[raise(0), enter(0), post(0), unmask(3)]),
+        ("unmask", false, &[raise(0), enter(0), unmask(3)]),
+    ];
+    show(rt, plan, runs)
 }
 
 fn accepted(rt: &impl Print, plan: &Plan) -> io::Result<()> {
-    show(rt, "merged", last(plan, false, &[raise(0), raise(0)]))?;
-    show(
-        rt,
-        "unmasked",
-        last(plan, true, &[mask(0), raise(0), unmask(0), enter(0)]),
-    )?;
-    show(
-        rt,
-        "pended",
-        last(
-            plan,
+    let runs: &[Run] = &[
+        ("merged", false, &[raise(0), raise(0)]),
+        ("unmasked", true, &[mask(0), raise(0), unmask(0), enter(0)]),
+        (
+            "pended",
             true,
             &[signal(2), Call::Go, Call::Go, Call::Go, Call::Pend],
         ),
-    )?;
-    show(
-        rt,
-        "blocked",
-        last(plan, true, &[Call::Block, Call::Go, Call::Go]),
-    )
+        ("blocked", true, &[Call::Block, Call::Go, Call::Go]),
+    ];
+    show(rt, plan, runs)
 }
 
+// As it is printed: 0 where nothing is refused.
 fn number_of<T: Drop>(answer: Result<T, Unknown>) -> u8 {
-    match answer {
-        Ok(_) => 0,
-        Err(unknown) => unknown.number(),
-    }
+    answer.err().map_or(0, |unknown| unknown.number())
 }
 
 // Nobody is ready, so the direct scheduler begins anew; what the plan lacks is refused.
 fn questions(rt: &impl Print, plan: &Plan) -> io::Result<()> {
-    let mut machine = Machine::start(*plan, plan.policy(), &plan.nesting());
-    for _ in 0..8 {
-        machine.go();
-    }
+    let mut machine = started(plan, true);
     machine.block();
     for _ in 0..5 {
         machine.go();
     }
     let before = machine.scheduler_place().number();
     machine.go();
-    show(
-        rt,
-        "scheduler",
-        (before, machine.scheduler_place().number()),
-    )?;
+    let after = machine.scheduler_place().number();
     let lines = (
         number_of(machine.enabled(LineNo(3))),
         number_of(machine.pending(LineNo(3))),
     );
-    show(rt, "lines", lines)?;
     let tasks = (
         number_of(machine.ready(TaskNo(2))),
         number_of(machine.task(TaskNo(2))),
     );
-    show(rt, "tasks", tasks)?;
     let events = (
         number_of(machine.posted_event(EventNo(1))),
         number_of(machine.copied_event(EventNo(1))),
     );
-    show(rt, "events", events)?;
-    show(
-        rt,
-        "routines",
-        (
-            number_of(machine.line_place(LineNo(3))),
-            number_of(machine.suspended(1)),
-        ),
-    )
+    let routines = (
+        number_of(machine.line_place(LineNo(3))),
+        number_of(machine.suspended(1)),
+    );
+    for (name, (first, second)) in [
+        ("scheduler", (before, after)),
+        ("lines", lines),
+        ("tasks", tasks),
+        ("events", events),
+        ("routines", routines),
+    ] {
+        println!(rt; "{name} {first} {second}")?;
+    }
+    Ok(())
 }
 
 // A buffer for one call and a list of two: the number, and the buffer as found.
 fn short_buffer(rt: &impl Print, plan: &Plan) -> io::Result<()> {
     let mut out = [(7, 7); 1];
     let calls = [Call::Go, Call::Go];
-    let number = match apply_from_start(*plan, plan.policy(), &plan.nesting(), &calls, &mut out) {
-        Ok(_) => 0,
-        Err(short) => short.number(),
-    };
-    show(rt, "short", (number, out[0].1))
+    let started = apply_from_start(*plan, plan.policy(), &plan.nesting(), &calls, &mut out);
+    let number = started.err().map_or(0, |short| short.number());
+    let [(_, active)] = out;
+    println!(rt; "short {number} {active}")
 }
 
 // Two tasks, three lines of the ranks 2, 3 and 2, and one event.
-fn main(rt: HostRuntime) -> Result<(), Stop> {
+fn main(rt: HostRuntime) -> anyhow::Result<()> {
     let plan = Plan::from_tables(&Tables {
         policy: 1,
         rule: 1,

@@ -1,16 +1,13 @@
-use Rattle.std.proofs.Common.{sym, arith, rules}
-use Rattle.board.proofs.Counting.{no_line, no_line_more, line_here}
+use Rattle.std.proofs.Common.{ℕ, rules, arith, refl, sym, ◌∙◌}
+use Rattle.std.specs.Prelude.{◌==◌}
+use Rattle.std.proofs.lemmas.Iterator.Search.{any_from_yields_List}
+use Rattle.std.proofs.lemmas.Iterator.{YieldsList-from_range}
+use Rattle.board.proofs.Counting.{some_listed}
 use Rattle.board.proofs.figure.some_line.Goals as goal
 
-pub loop-i-init : goal.loop-i-init
-loop-i-init g c = no_line (g.R.NestingRule.ranked c.args.rule.now) c.args.rank
-
-pub returns-then-rank : goal.returns-then-rank
-returns-then-rank g c =
-    sym
-    (line_here (g.R.NestingRule.ranked c.args.rule.now) c.args.rank c.args.lines c.loop-i.i (omega arith)
-    (search rules))
-
-pub loop-i-preserved : goal.loop-i-preserved
-loop-i-preserved g c =
-    no_line_more (g.R.NestingRule.ranked c.args.rule.now) c.args.rank c.loop-i.i c.loop-i.invariant (search rules)
+pub returns : goal.returns
+returns g c =
+    let ranked = g.R.NestingRule.ranked c.args.rule.now in
+    let has = λ (i : ℕ). ranked (record { 0 = i }) == c.args.rank in
+    any_from_yields_List has _ _ c.any.result c.any.ensures.ran (YieldsList-from_range 0 c.args.lines c.args.lines refl (omega arith)) (λ x b q k. search rules)
+    ∙ sym (some_listed ranked c.args.rank c.args.lines)

@@ -50,7 +50,7 @@ returns-then-out-count g c =
 pub answer_steps-requires : goal.answer_steps-requires
 answer_steps-requires g c =
     let k = counted_accepted c.args.run.now c.in_ok-count.count c.in_ok-count.ensures.answer in
-    record { good = k.0; room = omega (arith, k.1) }
+    record { good = k.0; steps = k.1; room = omega arith }
 
 pub returns : goal.returns
 returns g c =
@@ -66,15 +66,16 @@ returns g c =
     let owes = g.met.P.Policy in
     let k = counted_accepted run c.in_ok-count.count c.in_ok-count.ensures.answer in
     let calls = map call_of (steps_in (drop 5 run)) in
-    let more = drop (2 * length (steps_in (drop 5 run))) out in
-    let few : lines p ≤ 16 = omega (arith, plan.few_lines, plan.levels_counted) in
+    let more = drop (2 * c.in_ok-count.count) out in
+    let few : lines p ≤ 16 = omega (arith, plan.levels_filled.few, plan.levels_filled.counted) in
     let same : (i : LineNo) → i.0 < lines p → ranks_of m i ≡ rank i = λ i l. begun.ranks i (omega arith) in
-    let written : c.answer_steps.new.out ≡ flat (answers p choose rank calls (start p)) ++ more =
+    let written : c.answer_steps.new.out ≡ flat (answers p choose rank calls (start p)) ++ drop (2 * length (steps_in (drop 5 run))) out =
     c.answer_steps.ensures.out
     ∙ (ap (λ (q : Plan). flat (answers (parts q) (g.P.Policy.chosen (policy_of m)) (ranks_of m) calls (state_of m)) ++ more) begun.plan
     ∙ (ap (λ (x : g.row.P.Denot). flat (answers p (g.P.Policy.chosen x) (ranks_of m) calls (state_of m)) ++ more) begun.policy
     ∙ (ap (λ (s : State). flat (answers p choose (ranks_of m) calls s) ++ more) begun.state
-    ∙ ap (λ (l : List (ℕ × ℕ)). flat l ++ more) (same_answers p choose (ranks_of m) rank same calls)))) in
+    ∙ (ap (λ (l : List (ℕ × ℕ)). flat l ++ more) (same_answers p choose (ranks_of m) rank same calls)
+    ∙ ap (λ n. flat (answers p choose rank calls (start p)) ++ drop (2 * n) out) k.1)))) in
     record {
       answer =
           ap (λ n. Ok (n, c.answer_steps.new.out)) k.1

@@ -1,17 +1,16 @@
-use Rattle.std.proofs.Common.{◌∙◌}
-use Rattle.std.proofs.lemmas.List.{length-set}
-use Rattle.formats.proofs.Words.{sets_more, sets_all}
+use Rattle.std.proofs.Common.{◌≡◌, ℕ, ◌*◌, ◌<◌, rules, arith}
+use Rattle.numbers.specs.declared.number.TaskNo.{TaskNo}
+use Rattle.numbers.specs.declared.set.Set.{Set}
+use Rattle.formats.specs.Wire.{word}
+use Rattle.formats.proofs.Words.{made_each, sets_read}
 use Rattle.formats.proofs.read.sets_in.Goals as goal
-
-pub loop-i-preserved : goal.loop-i-preserved
-loop-i-preserved c = (
-  length-set c.loop-i.all c.loop-i.i c.from_bits.result ∙ c.loop-i.invariant.0,
-  sets_more c.args.bytes.now c.loop-i.all c.args.count c.loop-i.i c.requires.whole c.loop-i.invariant.0
-      c.loop-i.invariant.1 c.from_bits.result c.word_at.result c.requires.few c.loop-i-test.true
-      c.word_at.ensures c.from_bits.ensures,
-)
 
 pub returns : goal.returns
 returns c =
-    sets_all c.args.bytes.now c.loop-i.all c.args.count c.loop-i.i c.requires.whole c.loop-i.invariant.0
-    c.loop-i.invariant.1 c.loop-i-test.false c.loop-i.auto.i-end
+    let bs = c.args.bytes.now in
+    let n = c.args.count in
+    let items = c.from_fn.ensures.items in
+    let z : Set TaskNo = record { bits = 0; kind = record {} } in
+    sets_read bs c.from_fn.result z n c.requires.whole (omega arith)
+    (λ k low.
+    made_each _ _ c.from_fn.result (λ (i : ℕ) (s : Set TaskNo). i < n → s.bits ≡ word bs (2 * i)) (λ i y q called. search rules) 16 0 items.each k (omega arith) (omega arith) z low)

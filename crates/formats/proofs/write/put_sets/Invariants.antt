@@ -1,8 +1,7 @@
-use Rattle.std.proofs.Common.{◌≡◌, map, take}
+use Rattle.std.proofs.Common.{◌≡◌, ◌*◌, ◌++◌, map, take, drop}
 use Rattle.board.specs.Plans.{bits_of}
 use Rattle.formats.specs.Wire.{twos}
-use Rattle.formats.specs.Written.{placed}
 use Rattle.formats.proofs.write.put_sets.Given as goal
 
 abbrev pub invariant-loop-i : goal.invariant-loop-i
-invariant-loop-i l = l.out ≡ placed l.initial.out l.at (twos (map bits_of (take l.i l.sets)))
+invariant-loop-i l = l.out ≡ twos (map bits_of (take l.i l.sets)) ++ drop (2 * l.i) l.initial.out

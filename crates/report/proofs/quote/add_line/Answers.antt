@@ -1,11 +1,10 @@
 use Rattle.std.proofs.Common.{[], ◌∷◌, ◌++◌, decimal}
-use Rattle.text.specs.Texts.{written}
 use Rattle.text.proofs.Cutting.{cut_on}
 use Rattle.report.proofs.quote.add_line.Goals as goal
 
 pub returns : goal.returns
 returns c =
-    let before = written c.args.text.now in
+    let before = c.args.text.now in
     let name = c.args.name.now in
     let digits = decimal c.args.value in
     let two = cut_on 512 before name (32 ∷ []) c.word.ensures c.word-2.ensures in

@@ -5,6 +5,7 @@ use Rattle.runs.proofs.Writing.{blank}
 use Rattle.runs.proofs.write.check_steps.Given as goal
 
 abbrev pub invariant-loop-k : goal.invariant-loop-k
-invariant-loop-k l =
-    (first (steps_tests 5 l.steps) ≡ first (steps_tests (5 + 4 * l.k) (drop l.k l.steps)))
-    × ((i : ℕ) → i < l.k → (get_or l.steps i blank).set < 65536)
+invariant-loop-k l = record {
+  passed : first (steps_tests 5 l.steps) ≡ first (steps_tests (5 + 4 * l.k-counter) (drop l.k-counter l.steps));
+  sized : (i : ℕ) → i < l.k-counter → (get_or l.steps i blank).set < 65536;
+}

@@ -1,15 +1,7 @@
-use Rattle.std.proofs.Common.{◌≡◌, true, false, ltb, length, sym, refl, rules}
-use Rattle.std.proofs.lemmas.Bool.{ltb-false, ltb-true}
+use Rattle.std.proofs.Common.{refl, rules}
 use Rattle.kernel.specs.States.{at_place}
-use Rattle.system.proofs.Noting.{blank, noted_change, noted_set_beyond}
+use Rattle.system.proofs.Noting.{noted_change}
 use Rattle.system.proofs.table.TaskTable.move_to.Goals as goal
 
-pub returns-in-Some : goal.returns-in-Some
-returns-in-Some c =
-    let here : true ≡ ltb c.args.task.0 (length c.args.self.now.records) = search rules in
-    noted_change c.args.self.now.records c.args.task.0 blank _ (at_place c.args.place) (ltb-true _ _ (sym here)) refl
-
-pub returns-in_default : goal.returns-in_default
-returns-in_default c =
-    let past : false ≡ ltb c.args.task.0 (length c.args.self.now.records) = search rules in
-    noted_set_beyond c.args.self.now.records c.args.task.0 _ (ltb-false _ _ (sym past))
+pub returns-then-task-lt16 : goal.returns-then-task-lt16
+returns-then-task-lt16 c = noted_change c.args.self.now.records c.args.task.0 _ (at_place c.args.place) (search rules) refl
