@@ -3,8 +3,8 @@ ghost use Rattle.std.specs.Prelude.{◌≡◌, ℕ, ◌<◌, slice_index};
 
 use numbers::number::LineNo;
 
-// By line number; 0 for a line that the plan lacks. The priorities and the ranks are tables of types of their own, since
-// each has bounds of its own.
+// By line number; 0 for a line that the plan lacks. The priorities and the ranks are tables of their own: one generic
+// type would save a look-up of one line, and want a marker and a bound for each.
 #[derive(Clone, Copy)]
 pub struct Levels {
     of: [u8; 16],

@@ -31,7 +31,8 @@ fn check_counts(tasks: usize, lines: usize, events: usize) -> Result<Counts, Pla
     })
 }
 
-// Refuses the first count that is out of range, and then a number that names no policy or no nesting rule.
+// Refuses the first count that is out of range, and then a number that names no policy or no nesting rule: numbers as they
+// come from outside.
 pub fn check_numbers(counts: Counts, policy: u8, rule: u8) -> Result<(), PlanRefusal>
     ensures { result ≡ checked (count_tests counts.tasks counts.lines counts.events ++ number_tests policy rule) }
 {

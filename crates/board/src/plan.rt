@@ -1,5 +1,5 @@
 // A board's plan: every value of `Plan` is a legal one.
-ghost use Rattle.std.specs.Prelude.{◌≡◌, ℕ, ◌^◌, ◌<◌, ◌≤◌, map, length, take, slice_index};
+ghost use Rattle.std.specs.Prelude.{ℕ, ◌^◌, ◌<◌, ◌≤◌, map, take, slice_index};
 ghost use Rattle.board.specs.Plans.{Filled, bits_of};
 
 use crate::kinds::{PolicyKind, RankRule};
@@ -28,6 +28,7 @@ pub struct Counts {
     pub events: u8,
 }
 
+// Clauses see a plan by its `parts`. No model: a plan is copied inside other structs, which a value with a model is not.
 #[derive(Clone, Copy)]
 pub struct Plan {
     pub(crate) policy: PolicyKind,

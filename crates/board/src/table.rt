@@ -1,10 +1,9 @@
 // Tables of up to sixteen entries.
-ghost use Rattle.std.specs.Prelude.{◌≡◌, ℕ, ◌≤◌, length, take};
+ghost use Rattle.std.specs.Prelude.{◌≡◌, ◌≤◌, length, take};
 ghost use Rattle.board.specs.Plans.{padded};
 
-// The entries first, and zeros after them. Memory is fixed, so that a table has its sixteen places in
-// itself. A generic struct with a ghost field derives no `Clone`: the facts of a plan's tables stand in
-// `Plan`.
+// The entries first, and zeros after them: memory is fixed, and a plan is `Copy`, as no vector is. What
+// holds of a plan's tables stands in `Plan`, since of the wake sets it is said of their bits.
 #[derive(Clone, Copy)]
 pub(crate) struct Table<T> {
     pub(crate) count: u8,

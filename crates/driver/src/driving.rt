@@ -23,8 +23,8 @@ use runs::check::check_run;
 use runs::fault::RunFault;
 use runs::reader::RunReader;
 
-// Makes the calls of a run that was checked, and writes the two numbers of each: by place, since a proof knows nothing of
-// the bytes that a loop over `chunks_exact_mut` writes.
+// Makes the calls of a run that was checked, and writes the two numbers of each: by place, since a proof knows nothing
+// of the bytes that a loop over `chunks_exact_mut` writes.
 fn answer_steps<P: Policy>(
     machine: &mut Machine<P>,
     run: &[u8],
@@ -85,7 +85,8 @@ mod tests {
     use crate::driving::drive;
     use std::test::Fail;
 
-    // A board with two tasks, one line and one event: the scheduler's first pass, then an interrupt that posts the event.
+    // A board with two tasks, one line and one event: the scheduler's first pass, then an interrupt that posts the
+    // event.
     const BOARD: [u8; 80] =
         *b"PLN\x01\x00\x02\x01\x01\x01\x01\x01\x00\x00\x00\x0A\x14\x40\x02\x00RUN\x01\x00\x04\x00\x00\x00\x04\x00\x00\x00\x04\x00\x00\x00\x04\x00\x00\x00\x04\x00\x00\x00\x04\x00\x00\x00\x04\x00\x00\x00\x04\x00\x00\x00\x01\x00\x00\x00\x02\x00\x00\x00\x07\x00\x00\x00\x08\x00\x00\x00\x04\x00\x00\x00\x08\x00\x00\x00";
 

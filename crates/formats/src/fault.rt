@@ -60,6 +60,7 @@ pub struct Refusal {
 }
 
 impl PlanFault {
+    // Each layer's faults have a table of numbers and places of their own: a trait would repeat both as ghost members.
     pub fn refusal(&self) -> Refusal
         ensures { result ≡ plan_refusal self.now }
     {
@@ -70,6 +71,7 @@ impl PlanFault {
         }
     }
 
+    // As it is printed.
     fn number(&self) -> u8
         ensures { result ≡ plan_number self.now }
     {

@@ -1,17 +1,18 @@
 // Writing a plan into a buffer.
-ghost use Rattle.std.specs.Prelude.{◌≡◌, ◌+◌, ◌*◌, ◌≤◌, map, length, drop, IfOk, Ok};
+ghost use Rattle.std.specs.Prelude.{◌≡◌, ◌+◌, ◌*◌, map, length, drop, IfOk, Ok};
 ghost use Rattle.board.specs.Plans.{bits_of};
 ghost use Rattle.board.specs.Viewed.{parts};
 ghost use Rattle.formats.specs.Decode.{decode};
 ghost use Rattle.formats.specs.Wire.{encode, head, twos};
-ghost use Rattle.formats.specs.Written.{left, placed, wrote};
+ghost use Rattle.formats.specs.Written.{left, wrote};
 
 use crate::fault::PlanFault;
 use board::plan::Plan;
 use numbers::number::TaskNo;
 use numbers::set::Set;
 
-// Writes the sets, two bytes each.
+// Writes the sets, two bytes each: by place, since a proof knows nothing of the bytes that a loop over `chunks_exact_mut`
+// writes.
 fn put_sets(out: &mut [u8], sets: &[Set<TaskNo>])
     requires { length out.old ≡ 2 * length sets.now }
     ensures { out.new ≡ twos (map bits_of sets.now) }

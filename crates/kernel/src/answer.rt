@@ -33,7 +33,7 @@ pub enum CallRefusal {
 
 pub type Answer = Result<Accepted, CallRefusal>;
 
-// The number that stands for an answer. No `From`: the type is std's, which a crate of ours gives no impl.
+// The number that stands for an answer. No `From`: neither `u8` nor `Result` is a type of this crate.
 pub fn number(answer: Answer) -> u8
     ensures { result ≡ answer_number answer }
 {

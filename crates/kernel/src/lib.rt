@@ -1,4 +1,5 @@
-// What the machine does, as definitions over its own routines, places and calls, and what holds after every list of calls.
+// What the machine does, as definitions over its own routines, places and calls, and what holds after every list of
+// calls.
 #![tactic(auto)]
 
 pub mod answer;

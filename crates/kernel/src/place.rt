@@ -1,5 +1,5 @@
-// The places of the routines. Each has a number of its own by the same cast: a trait or `From` would need as many impls,
-// with a ghost member more each.
+// The places of the routines. The number of each kind is its own cast: a trait or `From` would need an impl for each kind
+// all the same, and a ghost member besides.
 ghost use Rattle.std.specs.Prelude.{◌≡◌};
 ghost use Rattle.kernel.specs.Numbers.{line_place_number, scheduler_place_number, task_place_number};
 

@@ -23,6 +23,7 @@ use thiserror::Error;
 pub struct Unknown;
 
 impl Unknown {
+    // As it is printed.
     pub fn number(self) -> u8
         ensures { result ≡ 11 }
     {

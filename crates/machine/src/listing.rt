@@ -30,6 +30,7 @@ pub struct ShortBuffer {
 }
 
 impl ShortBuffer {
+    // As it is printed.
     pub fn number(&self) -> u8
         ensures { result ≡ 10 }
     {

@@ -15,7 +15,8 @@ use policy::policies::Policy;
 use system::system::System;
 
 impl<P: Policy> Machine<P> {
-    // The machine of a plan, under a policy and a nesting rule. The empty list of calls leads to it.
+    // The machine of a plan, under a policy and a nesting rule. The empty list of calls leads to it. The three come one by
+    // one, here and where a list is applied: a caller may take any policy and any rule to any plan.
     pub fn start<N: NestingRule>(plan: Plan, policy: P, rule: &N) -> Machine<P>
         ensures state { state_of result ≡ start (parts plan) }
         ensures plan { plan_of result ≡ plan }

@@ -5,7 +5,8 @@ ghost use Rattle.policy.specs.Priorities.{highest_priority, leaders, priority_of
 use numbers::number::TaskNo;
 use numbers::set::Set;
 
-// By task number; 0 for a task that the plan lacks.
+// By task number; 0 for a task that the plan lacks. A type of its own beside the tables of the lines, whose numbers are no
+// tasks'.
 #[derive(Clone, Copy)]
 pub struct Priorities {
     pub of: [u8; 16],

@@ -39,8 +39,8 @@ impl ProgramFault {
         }
     }
 
-    // The line that a program prints: `refused`, the number, the place and the layer. No `Display`: its contract allows an
-    // error at any time, and a line can't fail.
+    // The line that a program prints: `refused`, the number, the place and the layer. No `Display`: its contract allows
+    // an error at any time, and a line can't fail.
     pub fn line(&self) -> Text
         ensures { result ≡ refusal_line self.now }
     {

@@ -55,6 +55,7 @@ impl RunFault {
         }
     }
 
+    // As it is printed.
     fn number(&self) -> u8
         ensures { result ≡ run_number self.now }
     {

@@ -16,6 +16,8 @@ pub struct RunReader<'a> {
     pub(crate) place: usize,
 }
 
+// As a plan's head is checked, with other constants and faults of another type: one function would take them all as
+// parameters.
 fn check_opening(bytes: &[u8]) -> Result<(), RunFault>
     ensures { result ≡ checked (opening_tests bytes.now) }
 {

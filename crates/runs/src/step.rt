@@ -1,7 +1,7 @@
 // The steps of a run, and the calls that they stand for.
 ghost use Rattle.std.specs.Prelude.{◌≡◌, ◌<◌};
 ghost use Rattle.board.specs.Refusing.{checked};
-ghost use Rattle.runs.specs.Steps.{call_of, step_call, step_tests, uses_number};
+ghost use Rattle.runs.specs.Steps.{step_call, step_tests, uses_number};
 
 use crate::fault::StepRefusal;
 use kernel::call::Call;

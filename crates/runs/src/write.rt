@@ -33,8 +33,8 @@ fn put_steps(out: &mut [u8], steps: &[Step])
     }
 }
 
-// Puts a run of these steps at the front of the buffer and answers its size. What a reader would refuse is refused at the
-// reader's place, and then a buffer that is too short; a refusal leaves the buffer as found, and what stands after the
+// Puts a run of these steps at the front of the buffer and answers its size. What a reader would refuse is refused at
+// the reader's place, and then a buffer that is too short; a refusal leaves the buffer as found, and what stands after the
 // run stays.
 pub fn write_run(steps: &[Step], out: &mut [u8]) -> Result<usize, RunFault>
     ensures answer { result ≡ wrote_run steps.now out.old }

@@ -1,5 +1,4 @@
 // The calls, as one.
-ghost use Rattle.std.specs.Prelude.{◌≡◌};
 ghost use Rattle.kernel.specs.Rules.{apply};
 ghost use Rattle.system.specs.Systems.{Makes, board_of, ranks_of, state_of};
 

@@ -5,6 +5,7 @@ ghost use Rattle.board.specs.Ranks.{rank_bound};
 use board::nesting::NestingRule;
 use numbers::number::LineNo;
 
+// By line number. A type of its own beside the levels, since its bound is the ranks'.
 #[derive(Clone, Copy)]
 pub struct RankTable {
     of: [u8; 16],

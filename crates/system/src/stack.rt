@@ -1,6 +1,6 @@
 // The suspended routines, in an array of the greatest figure; the latest is the last of the first `len`.
-// A state is copied and allocates nothing, so this is no `Vec`. It has no model, since that of a `Copy` type has to give
-// its fields back: each pop would have to clear its slot.
+// A state is copied and allocates nothing, so this is no `Vec`; and it has no model, since a `Copy` struct is not copied
+// on when it holds one.
 ghost use Rattle.std.specs.Prelude.{◌≤◌};
 
 use kernel::routine::Routine;

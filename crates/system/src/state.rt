@@ -101,7 +101,8 @@ impl State {
         }
     }
 
-    // The next step of the active routine, by its kind and place: one match, so that each of them is seen to have its step.
+    // The next step of the active routine, by its kind and place: one match, so that each of them is seen to have its
+    // step.
     pub(crate) fn advance<P: Policy>(
         &mut self,
         standing: Standing,

@@ -17,6 +17,7 @@ pub struct TaskRecord {
     pub kept: Set<TaskNo>,
 }
 
+// By task number; sixteen, since memory is fixed. No model, since a state is copied with it.
 #[derive(Clone, Copy)]
 pub struct TaskTable {
     pub(crate) records: [TaskRecord; 16],
@@ -53,8 +54,8 @@ impl TaskTable {
             .unwrap_or(TaskRecord::fresh())
     }
 
-    // The record is lent by its index: a proof knows nothing of what a slice's `get_mut` leaves. Each change is named by what
-    // it writes: one function that takes a closure would owe clauses on the closure, longer than these two lines.
+    // The record is lent by its index: a proof knows nothing of what a slice's `get_mut` leaves. Each change is a function
+    // of its own: one that takes a closure would owe clauses on the closure, longer than these two lines.
     pub(crate) fn move_to(&mut self, task: TaskNo, place: TaskPlace)
         ensures { noted_all self.new.records ≡ slice_set (noted_all self.old.records) task.0 (at_place place (slice_index_or (noted_all self.old.records) task.0 fresh)) }
     {
@@ -85,6 +86,7 @@ impl TaskTable {
     }
 }
 
+// By line number. A type of its own: places and records are changed in ways of their own.
 #[derive(Clone, Copy)]
 pub struct LineTable {
     pub(crate) places: [LinePlace; 16],

@@ -1,5 +1,5 @@
-// Runs for each refusal of each call, in the order of the tests: the last call of each run is refused, and where a later
-// test would find something too, the first one wins. Then runs whose last call is accepted, and refused questions.
+// Runs for each refusal of each call, in the order of the tests: the last call of each run is refused, and where a
+// later test would find something too, the first one wins. Then runs whose last call is accepted, and refused questions.
 #![tactic(auto)]
 
 use board::choosing::PlanPolicy;
@@ -48,7 +48,7 @@ fn started(plan: &Plan, running: bool) -> Machine<Favoured<PlanPolicy>> {
     machine
 }
 
-// The two numbers of the last call.
+// The two numbers of the last call, as the machine answers them.
 fn last(plan: &Plan, running: bool, calls: &[Call]) -> (u8, u8) {
     let mut machine = started(plan, running);
     let mut numbers = (0, 0);
@@ -61,16 +61,8 @@ fn last(plan: &Plan, running: bool, calls: &[Call]) -> (u8, u8) {
 // A run: its name in the output, whether task 0 is running when its calls come, and the calls.
 type Run<'a> = (&'a str, bool, &'a [Call]);
 
-// The runs, each with the two numbers of its last call.
-fn show(rt: &impl Print, plan: &Plan, runs: &[Run]) -> io::Result<()> {
-    for (name, running, calls) in runs {
-        let (answer, active) = last(plan, *running, calls);
-        println!(rt; "{name} {answer} {active}")?;
-    }
-    Ok(())
-}
-
-fn lines(rt: &impl Print, plan: &Plan) -> io::Result<()> {
+// The runs, each with the two numbers of its last call: the refusals of each call, and then accepted calls.
+fn show_runs(rt: &impl Print, plan: &Plan) -> io::Result<()> {
     let runs: &[Run] = &[
         ("raise", false, &[raise(3)]),
         ("enter", false, &[enter(3)]),
@@ -90,12 +82,6 @@ fn lines(rt: &impl Print, plan: &Plan) -> io::Result<()> {
         ),
         ("enter", false, &[raise(0), raise(1), enter(0), enter(1)]),
         ("enter", false, &[raise(0), raise(2), enter(0), enter(2)]),
-    ];
-    show(rt, plan, runs)
-}
-
-fn pending(rt: &impl Print, plan: &Plan) -> io::Result<()> {
-    let runs: &[Run] = &[
         ("pend", false, &[Call::Pend]),
         ("pend", true, &[Call::Block, Call::Pend]),
         ("pend", true, &[signal(2), Call::Go, Call::Go, Call::Pend]),
@@ -128,64 +114,28 @@ fn pending(rt: &impl Print, plan: &Plan) -> io::Result<()> {
                 Call::Pend,
             ],
         ),
-    ];
-    show(rt, plan, runs)
-}
-
-fn going(rt: &impl Print, plan: &Plan) -> io::Result<()> {
-    let runs: &[Run] = &[
         ("go", true, &[Call::Go]),
         ("go", false, &[raise(0), enter(0), Call::Go]),
-    ];
-    show(rt, plan, runs)
-}
-
-fn signals(rt: &impl Print, plan: &Plan) -> io::Result<()> {
-    let runs: &[Run] = &[
         ("signal", false, &[signal(4)]),
         ("signal", false, &[raise(0), enter(0), signal(1)]),
         ("signal", true, &[signal(2), signal(4)]),
         ("signal", true, &[signal(4)]),
         ("block", false, &[Call::Block]),
         ("block", true, &[Call::Block, Call::Block]),
-    ];
-    show(rt, plan, runs)
-}
-
-fn posts(rt: &impl Print, plan: &Plan) -> io::Result<()> {
-    let runs: &[Run] = &[
         ("post", false, &[post(1)]),
         ("post", true, &[post(0)]),
         ("post", false, &[raise(0), enter(0), post(0), post(1)]),
         ("post", false, &[raise(0), enter(0), post(1)]),
         ("leave", false, &[Call::Leave]),
         ("leave", false, &[raise(0), enter(0), post(0), Call::Leave]),
-    ];
-    show(rt, plan, runs)
-}
-
-fn masks(rt: &impl Print, plan: &Plan) -> io::Result<()> {
-    let runs: &[Run] = &[
         ("mask", false, &[mask(3)]),
         ("mask", true, &[Call::Block, mask(3)]),
         ("mask", false, &[raise(0), enter(0), post(0), mask(3)]),
         ("mask", true, &[mask(3)]),
-    ];
-    show(rt, plan, runs)
-}
-
-fn unmasks(rt: &impl Print, plan: &Plan) -> io::Result<()> {
-    let runs: &[Run] = &[
         ("unmask", false, &[unmask(3)]),
         ("unmask", true, &[Call::Block, unmask(3)]),
         ("unmask", false, &[raise(0), enter(0), post(0), unmask(3)]),
         ("unmask", false, &[raise(0), enter(0), unmask(3)]),
-    ];
-    show(rt, plan, runs)
-}
-
-fn accepted(rt: &impl Print, plan: &Plan) -> io::Result<()> {
-    let runs: &[Run] = &[
         ("merged", false, &[raise(0), raise(0)]),
         ("unmasked", true, &[mask(0), raise(0), unmask(0), enter(0)]),
         (
@@ -195,7 +145,11 @@ fn accepted(rt: &impl Print, plan: &Plan) -> io::Result<()> {
         ),
         ("blocked", true, &[Call::Block, Call::Go, Call::Go]),
     ];
-    show(rt, plan, runs)
+    for (name, running, calls) in runs {
+        let (answer, active) = last(plan, *running, calls);
+        println!(rt; "{name} {answer} {active}")?;
+    }
+    Ok(())
 }
 
 // As it is printed: 0 where nothing is refused.
@@ -241,7 +195,7 @@ fn questions(rt: &impl Print, plan: &Plan) -> io::Result<()> {
     Ok(())
 }
 
-// A buffer for one call and a list of two: the number, and the buffer as found.
+// A buffer for one call and a list of two: the number as it is printed, and the buffer as found.
 fn short_buffer(rt: &impl Print, plan: &Plan) -> io::Result<()> {
     let mut out = [(7, 7); 1];
     let calls = [Call::Go, Call::Go];
@@ -262,14 +216,7 @@ fn main(rt: HostRuntime) -> anyhow::Result<()> {
         levels: &[64, 96, 70],
         wakes: &[Set::from_bits(2)],
     })?;
-    lines(&rt, &plan)?;
-    pending(&rt, &plan)?;
-    going(&rt, &plan)?;
-    signals(&rt, &plan)?;
-    posts(&rt, &plan)?;
-    masks(&rt, &plan)?;
-    unmasks(&rt, &plan)?;
-    accepted(&rt, &plan)?;
+    show_runs(&rt, &plan)?;
     questions(&rt, &plan)?;
     short_buffer(&rt, &plan)?;
     Ok(())
