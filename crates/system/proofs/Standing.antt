@@ -121,7 +121,7 @@ module _ (plan : Parts) (choose : Chooses) (rank : Ranks) where
       by_flags r p.1 (s.request && s.delayed) e
     where
       by_flags : (r : Routine) → stacked rank (lines plan) r rs ≡ true → (v : Bool) → s.suspended ≡ r ∷ rs
-          → Stands (cond (is_task r && v) (record { enabled = s.enabled; pending = s.pending; delayed = s.delayed; request = false; active = Delayed; suspended = s.suspended; current = s.current; ready = s.ready; posted = s.posted; copied = s.copied; chosen = s.chosen; tasks = s.tasks; lines = s.lines; scheduler = Copying }) (record { enabled = s.enabled; pending = s.pending; delayed = s.delayed; request = s.request; active = r; suspended = rs; current = s.current; ready = s.ready; posted = s.posted; copied = s.copied; chosen = s.chosen; tasks = s.tasks; lines = s.lines; scheduler = s.scheduler }))
+          → Stands (cond (is_task r && v) (record s { request = false; active = Delayed; scheduler = Copying }) (record s { active = r; suspended = rs }))
       by_flags Direct k v e = k
       by_flags Delayed k v e = k
       by_flags (Handler i) k v e = k

@@ -24,4 +24,4 @@ woken_same wakes events n h = ap (λ m. woken_below m wakes events) (add-one n) 
 pub get_bits : (sets : List (Set TaskNo)) (n : ℕ) (d : Set TaskNo) → n < length sets → get_or (map bits_of sets) n 0 ≡ (get_or sets n d).bits
 get_bits sets n d h = get_or-map bits_of sets n d 0 h
 
-pub ruleset woken_below_laws = (woken_none, woken_more, woken_same, get_bits)
+pub ruleset woken_below_steps = (woken_none, woken_more, woken_same, get_bits)

@@ -214,8 +214,9 @@ impl State {
                 self.lines.set(i, LinePlace::Handling);
                 Ok(Accepted::Done)
             }
-            Standing::Handler(_, LinePlace::Idle) | Standing::Handler(_, LinePlace::Handling) =>
-                Err(CallRefusal::OtherPlace),
+            Standing::Handler(_, LinePlace::Idle | LinePlace::Handling) => Err(
+                CallRefusal::OtherPlace,
+            ),
         }
     }
 }

@@ -7,7 +7,7 @@ use numbers::number::{EventNo, TaskNo};
 use numbers::set::Set;
 
 // The union of the wake sets of some events.
-#[tactic(auto, using(crate::proofs::Wakes::woken_below_laws))]
+#[tactic(auto, using(crate::proofs::Wakes::woken_below_steps))]
 pub(crate) fn woken(wakes: &[Set<TaskNo>], events: Set<EventNo>) -> Set<TaskNo>
     requires { length wakes.now ≤ 16 }
     ensures { result.bits ≡ wake (map bits_of wakes.now) events.bits }
