@@ -56,6 +56,17 @@ seven_parts a b c d e f g p0 p1 p2 p3 p4 p5 p6 p7 la lb lc ld le lf lg =
     let short = seven_short a b c d e f g la lb lc ld le lf lg in
     uncut 512 (a ++ b ++ c ++ d ++ e ++ f ++ g) (seven a b c d e f g p0 p1 p2 p3 p4 p5 p6 p7) (omega (arith, short))
 
+-- and eight
+pub eight_parts :
+    (a b c d e f g h : List ℕ) {w0 w1 w2 w3 w4 w5 w6 w7 w8 : List ℕ} → w0 ≡ [] →
+    w1 ≡ cut (w0 ++ a) → w2 ≡ cut (w1 ++ b) → w3 ≡ cut (w2 ++ c) → w4 ≡ cut (w3 ++ d) → w5 ≡ cut (w4 ++ e) → w6 ≡ cut (w5 ++ f) → w7 ≡ cut (w6 ++ g) → w8 ≡ cut (w7 ++ h) →
+    length a ≤ 31 → length b ≤ 31 → length c ≤ 31 → length d ≤ 31 → length e ≤ 31 → length f ≤ 31 → length g ≤ 31 → length h ≤ 31 →
+    w8 ≡ a ++ b ++ c ++ d ++ e ++ f ++ g ++ h
+eight_parts a b c d e f g h p0 p1 p2 p3 p4 p5 p6 p7 p8 la lb lc ld le lf lg lh =
+    let ahead = a ++ b ++ c ++ d ++ e ++ f ++ g in
+    let short = more ahead h (seven_short a b c d e f g la lb lc ld le lf lg) lh in
+    uncut 512 (ahead ++ h) (cut_after 512 ahead h (seven a b c d e f g p0 p1 p2 p3 p4 p5 p6 p7) p8) (omega (arith, short))
+
 -- names and values, a line for each
 module _ {N : Type 0} (name : N → List ℕ) where
   abbrev pub line : N × ℕ → List ℕ

@@ -1,8 +1,9 @@
 // Why a program refuses its input.
 ghost use Rattle.std.specs.Prelude.{◌≡◌};
-ghost use Rattle.report.specs.declared.fault.ProgramFault.TheVariants.{Plan};
+ghost use Rattle.report.specs.declared.fault.ProgramFault.TheVariants.{Drive, Plan};
 ghost use Rattle.report.specs.Faults.{program_refusal, refusal_line};
 
+use driver::fault::DriveFault;
 use formats::fault::{Layer, PlanFault, Refusal};
 use text::text::Text;
 use thiserror::Error;
@@ -14,6 +15,9 @@ pub enum ProgramFault {
     // what the plan is refused for
     #[error("{0}")]
     Plan(PlanFault),
+    // what the drive is refused for
+    #[error("{0}")]
+    Drive(DriveFault),
 }
 
 // By hand, since clauses name what it gives, and a derived one has no contract.
@@ -22,6 +26,14 @@ impl From<PlanFault> for ProgramFault {
 
     fn from(lower: PlanFault) -> ProgramFault {
         ProgramFault::Plan(lower)
+    }
+}
+
+impl From<DriveFault> for ProgramFault {
+    ghost from_gives = { λ lower fault. fault ≡ Drive lower };
+
+    fn from(lower: DriveFault) -> ProgramFault {
+        ProgramFault::Drive(lower)
     }
 }
 
@@ -36,6 +48,7 @@ impl ProgramFault {
                 layer: Layer::Program,
             },
             ProgramFault::Plan(fault) => fault.refusal(),
+            ProgramFault::Drive(fault) => fault.refusal(),
         }
     }
 

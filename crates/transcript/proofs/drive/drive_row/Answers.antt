@@ -1,6 +1,6 @@
 use Rattle.std.proofs.Common.{[], ◌∷◌, ◌++◌, decimal, ap, ◌∙◌, arith, rules}
 use Rattle.report.proofs.Texts.{decimal_31, eight_parts}
-use Rattle.transcript.proofs.drive.row.Goals as goal
+use Rattle.transcript.proofs.drive.drive_row.Goals as goal
 
 pub returns : goal.returns
 returns c =

@@ -1,0 +1,4 @@
+// What the programs that drive a board work out and print.
+#![tactic(auto)]
+
+pub mod drive;
