@@ -43,7 +43,8 @@ fn answer_steps<P: Policy>(
             return Ok(());
         };
         let (answer, active) = machine.apply(call);
-        out[2 * k..2 * k + 2].copy_from_slice(&[answer, active]);
+        out[2 * k] = answer;
+        out[2 * k + 1] = active;
     }
     Ok(())
 }

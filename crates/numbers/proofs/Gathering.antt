@@ -1,5 +1,5 @@
 -- The set of those numbers that pass a test.
-use Rattle.std.proofs.Common.{◌≡◌, ℕ, zero, suc, ◌^◌, ◌<◌, Bool, true, false, sym, ◌∙◌, inl, inr, ⊎_elim, arith}
+use Rattle.std.proofs.Common.{◌≡◌, ℕ, zero, suc, ◌+◌, ◌^◌, ◌<◌, Bool, true, false, refl, sym, ◌∙◌, inl, inr, ⊎_elim, add-one, arith}
 use borrow.Author.Count.{below_more}
 use lib.Bits.{bit_or}
 use Rattle.std.proofs.lemmas.Nat.{or_lt, pow_below}
@@ -16,6 +16,17 @@ module _ (p : ℕ → Bool) where
   gathered_no : (n : ℕ) → p n ≡ false → gathered (suc n) p ≡ gathered n p
   unfolding gathered
   gathered_no n h = cond-false _ _ _ h
+
+  -- a loop's steps
+  pub gathered_none : gathered 0 p ≡ 0
+  unfolding gathered
+  gathered_none = refl
+
+  pub gathered_more_yes : (n : ℕ) → true ≡ p n → gathered (n + 1) p ≡ bit_or (gathered n p) (2 ^ n)
+  gathered_more_yes n h = rw add-one (gathered_yes n (sym h))
+
+  pub gathered_more_no : (n : ℕ) → false ≡ p n → gathered (n + 1) p ≡ gathered n p
+  gathered_more_no n h = rw add-one (gathered_no n (sym h))
 
   pub gathered_small : (n : ℕ) → gathered n p < 2 ^ n
   unfolding gathered

@@ -9,9 +9,13 @@ use numbers::set::Set;
 pub(crate) fn nearest(set: Set<TaskNo>, from: TaskNo) -> Option<TaskNo>
     ensures { result ≡ stay set.bits from }
 {
-    let at = from.0.min(15);
-    (at..16)
-        .chain(0..at)
-        .map(TaskNo)
-        .find(|task| set.contains(*task))
+    // no chain of two ranges, which takes half as many instructions again
+    let mut at = from.0.min(15);
+    for _i in 0..16u8 {
+        if set.contains(TaskNo(at)) {
+            return Some(TaskNo(at));
+        }
+        at = (at + 1) % 16;
+    }
+    None
 }

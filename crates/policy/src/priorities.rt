@@ -1,6 +1,6 @@
 // The priorities of the tasks.
 ghost use Rattle.std.specs.Prelude.{◌≡◌, ℕ};
-ghost use Rattle.policy.specs.Priorities.{highest_priority, leaders, priority_of};
+ghost use Rattle.policy.specs.Priorities.{highest_priority, leaders, member_of_priority, priority_of};
 
 use numbers::number::TaskNo;
 use numbers::set::Set;
@@ -23,12 +23,21 @@ impl Priorities {
     fn highest(&self, set: Set<TaskNo>) -> u8
         ensures { result ≡ highest_priority self.now.of set.bits }
     {
-        (0..16)
-            .map(TaskNo)
-            .filter(|task| set.contains(*task))
-            .map(|task| self.at(task))
-            .max()
-            .unwrap_or(0)
+        // here and below no chain over the numbers, which takes twice the instructions
+        let mut high = 0;
+        for t in 0..16 {
+            let task = TaskNo(t);
+            if set.contains(task) {
+                high = self.at(task).max(high);
+            }
+        }
+        high
+    }
+
+    fn member_of_priority(&self, set: Set<TaskNo>, priority: u8, task: TaskNo) -> bool
+        ensures { result ≡ member_of_priority self.now.of set.bits priority task.0 }
+    {
+        set.contains(task) && self.at(task) == priority
     }
 
     // The tasks of the set with its highest priority.
@@ -36,9 +45,13 @@ impl Priorities {
         ensures { result.bits ≡ leaders self.now.of set.bits }
     {
         let high = self.highest(set);
-        (0..16)
-            .map(TaskNo)
-            .filter(|task| set.contains(*task) && self.at(*task) == high)
-            .fold(Set::from_bits(0), |found, task| found.with(task))
+        let mut found = Set::from_bits(0);
+        for t in 0..16 {
+            let task = TaskNo(t);
+            if self.member_of_priority(set, high, task) {
+                found = found.with(task);
+            }
+        }
+        found
     }
 }

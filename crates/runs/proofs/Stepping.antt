@@ -1,6 +1,6 @@
 -- The steps in some bytes, one by one.
-use Rattle.std.proofs.Common.{◌≡◌, ℕ, ◌+◌, ◌-◌, ◌*◌, ◌<◌, ◌≤◌, Bool, true, false, leb, List, [], ◌∷◌, length, get_or, take, drop, Some, None, Ok, Err, Option, Result, sym, refl, ap, ◌∙◌, arith}
-use Rattle.std.proofs.lemmas.List.{drop_more, get_or-drop, length-drop, take_all}
+use Rattle.std.proofs.Common.{◌≡◌, ℕ, ◌+◌, ◌<◌, ◌≤◌, Bool, true, false, leb, List, [], ◌∷◌, length, get_or, drop, Some, None, Ok, Err, Option, Result, sym, refl, ap, ◌∙◌, arith}
+use Rattle.std.proofs.lemmas.List.{drop_more, length-drop}
 use Rattle.std.proofs.lemmas.Bool.{cond-false, cond-true, leb-false, leb-true}
 use Rattle.board.specs.Refusing.{first, unless}
 use Rattle.kernel.specs.declared.call.Call.{Call}
@@ -35,20 +35,6 @@ few (a ∷ b ∷ c ∷ d ∷ bs) h = absurd (omega arith)
 
 pub steps_none : (bs : List ℕ) (place : ℕ) → length bs < place + 4 → steps_in (drop place bs) ≡ []
 steps_none bs p short = few (drop p bs) (omega (arith, length-drop p bs))
-
--- what some bytes hold from a place on begins with the step there
-pub step_ahead :
-    (bs ahead : List ℕ) (place set : ℕ) → ahead ≡ take (length bs - place) (drop place bs) → set ≡ get_or ahead 2 0 + get_or ahead 3 0 * 256 →
-    ◌≡◌ {A = Step} (record { code = get_or ahead 0 0; number = get_or ahead 1 0; set = set }) (step_at bs place)
-step_ahead bs ahead p set e s =
-    let all : ahead ≡ drop p bs = e ∙ take_all (length bs - p) (drop p bs) (omega (arith, length-drop p bs)) in
-    let at : (i : ℕ) → get_or ahead i 0 ≡ get_or bs (p + i) 0 = λ i. ap (λ (l : List ℕ). get_or l i 0) all ∙ get_or-drop p bs i 0 in
-    let here : p + 0 ≡ p = omega arith in
-    let a : get_or ahead 0 0 ≡ get_or bs p 0 = at 0 ∙ ap (λ i. get_or bs i 0) here in
-    let b : get_or ahead 1 0 ≡ get_or bs (p + 1) 0 = at 1 in
-    let c : get_or ahead 2 0 ≡ get_or bs (p + 2) 0 = at 2 in
-    let d : get_or ahead 3 0 ≡ get_or bs (p + 3) 0 = at 3 in
-    cc
 
 -- what the next call says of the bytes
 

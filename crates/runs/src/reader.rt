@@ -70,13 +70,15 @@ impl<'a> RunReader<'a> {
         ensures bytes { self.new.bytes.now ≡ self.old.bytes.now }
     {
         let place = self.place;
-        let Some([code, number, low, high, ..]) = self.bytes.get(place..) else {
+        // by index: each pass over a run takes fewer instructions so than by a pattern on the bytes from the place on
+        let length = self.bytes.len();
+        if length < 4 || place > length - 4 {
             return Ok(None);
-        };
+        }
         let step = Step {
-            code: *code,
-            number: *number,
-            set: u16::from_le_bytes([*low, *high]),
+            code: self.bytes[place],
+            number: self.bytes[place + 1],
+            set: u16::from_le_bytes([self.bytes[place + 2], self.bytes[place + 3]]),
         };
         let call = Call::try_from(step).map_err(|refusal| refused_at(place, refusal))?;
         self.place = place + 4;

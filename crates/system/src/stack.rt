@@ -77,10 +77,13 @@ impl Stack {
         self.held().iter().rev().nth(position).copied()
     }
 
-    // Whether the handler of a line is suspended.
+    // Whether the handler of a line is suspended. No `contains`: it compares in blocks with no early end, and over at most
+    // nine routines that would cost every call of the machine.
     pub(crate) fn holds(&self, line: LineNo) -> bool
         ensures { result ≡ nested line (listed self.now) }
     {
-        self.held().contains(&Routine::Handler(line))
+        self.held()
+            .iter()
+            .any(|routine| *routine == Routine::Handler(line))
     }
 }

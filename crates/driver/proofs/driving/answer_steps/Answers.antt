@@ -1,5 +1,5 @@
-use Rattle.std.proofs.Common.{◌≡◌, ℕ, ◌+◌, ◌*◌, List, [], ◌∷◌, drop, Some, None, Ok, Err, sym, refl, ap, ◌∙◌, subst, arith}
-use Rattle.std.proofs.lemmas.Slice.{put_mid-paste}
+use Rattle.std.proofs.Common.{◌≡◌, ℕ, suc, ◌+◌, ◌*◌, List, [], ◌∷◌, drop, set, Some, None, Ok, Err, sym, refl, ap, ◌∙◌, subst, arith}
+use Rattle.std.proofs.lemmas.List.Edits.{sets-eq}
 use Rattle.board.specs.declared.plan.Plan.{Plan}
 use Rattle.board.specs.Refusing.{first}
 use Rattle.board.specs.Viewed.{parts}
@@ -76,6 +76,7 @@ loop-k-preserved g c =
     (subst (λ (x : g.row.P.Denot). Follows (board_of m) (meaning x) (ranks_of l.machine) call (state_of l.machine) later r) l.invariant.policy
     (subst (λ (q : Plan). Follows (parts q) (meaning (policy_of l.machine)) (ranks_of l.machine) call (state_of l.machine) later r) l.invariant.plan done.follows)) in
     let two : List ℕ = r.0 ∷ r.1 ∷ [] in
+    let next : 2 * l.k + 1 ≡ suc (2 * l.k) = omega arith in
     record {
       bytes = n.bytes ∙ l.invariant.bytes;
       place = omega (arith, moved, l.invariant.place);
@@ -85,5 +86,5 @@ loop-k-preserved g c =
       driving =
           driving_more (board_of m) (meaning (policy_of m)) (ranks_of m) run (state_of m) c.args.out.now (state_of l.machine) l.out l.k l.invariant.driving
           later call _ r.0 r.1 here.0 (omega arith) here.2 f.state f.numbers
-          (put_mid-paste (2 * l.k) _ l.out c.copy_from_slice.new.self two 2 c.copy_from_slice.ensures.after (omega arith) refl);
+          (ap (λ i. set (set l.out (2 * l.k) r.0) i r.1) next ∙ sets-eq two l.out (2 * l.k) (omega arith));
     }

@@ -1,26 +1,39 @@
-use Rattle.std.proofs.Common.{◌≡◌, ◌-◌, suc, sym, ap, ◌∙◌, arith, rules}
-use borrow.Author.Tests.{tests}
-use Rattle.std.proofs.lemmas.Iterator.{YieldsList-from_range, YieldsList-from_map}
-use Rattle.std.proofs.lemmas.Iterator.Adapters.{option_map_id}
-use Rattle.std.proofs.lemmas.Iterator.Consumers.{YieldsList-at, YieldsList-from_chain}
-use Rattle.std.proofs.lemmas.Iterator.Search.{find_from_yields_List}
+use Rattle.std.proofs.Common.{◌≡◌, suc, ◌+◌, ◌-◌, sym, ap, ◌∙◌, arith}
 use Rattle.policy.specs.Policies.{counted, first_from, stay}
-use Rattle.policy.proofs.Numbered.{task, member, first_of_all}
+use Rattle.policy.specs.Staying.{first_here, first_next, first_end}
 use Rattle.policy.proofs.nearest.nearest.Goals as goal
+
+pub returns-then-contains : goal.returns-then-contains
+unfolding stay
+returns-then-contains c =
+    let s = c.args.set.bits in
+    let i = c.loop-i._i in
+    let from : c.min-at.result ≡ counted c.args.from = omega (arith, c.min-at.ensures) in
+    let n : 16 - i ≡ suc (15 - i) = omega arith in
+    sym
+    (ap (first_from 16 s) (sym from)
+    ∙ (c.loop-i.invariant.2
+    ∙ (ap (λ k. first_from k s c.loop-i.at) n
+    ∙ first_here (15 - i) s c.loop-i.at (sym c.if-contains.ensures))))
+
+pub loop-i-preserved : goal.loop-i-preserved
+loop-i-preserved c =
+    let s = c.args.set.bits in
+    let i = c.loop-i._i in
+    let n : 16 - i ≡ suc (16 - (i + 1)) = omega arith in (
+      omega arith,
+      omega arith,
+      c.loop-i.invariant.2
+          ∙ (ap (λ k. first_from k s c.loop-i.at) n
+          ∙ first_next (16 - (i + 1)) s c.loop-i.at (sym c.if-contains.ensures)),
+    )
 
 pub returns : goal.returns
 unfolding stay
 returns c =
     let s = c.args.set.bits in
-    let at = c.min-at.result in
-    let up = YieldsList-from_range at 16 (suc (15 - at)) c.chain.ensures.first (omega arith) in
-    let over = YieldsList-from_range 0 at at c.chain.ensures.second (omega arith) in
-    let numbers = YieldsList-from_chain up over c.chain.ensures.first_done c.chain.ensures.second_done in
-    let found =
-    find_from_yields_List (member s) _ _ c.find.result c.find.ensures.ran
-    (YieldsList-from_map _ task (YieldsList-at c.map.ensures.source numbers) c.map.ensures.closure (λ x r q k. search (rules, tests)))
-    (λ x b q k. search (rules, tests)) in
-    let from : at ≡ counted c.args.from = omega (arith, c.min-at.ensures) in
-    sym (option_map_id c.find.result)
-    ∙ (found
-    ∙ (first_of_all s (15 - at) at 15 at (omega arith) (omega arith) (omega arith) ∙ ap (first_from 16 s) from))
+    let from : c.min-at.result ≡ counted c.args.from = omega (arith, c.min-at.ensures) in
+    let n : 16 - c.loop-i._i ≡ 0 = omega arith in
+    sym
+    (ap (first_from 16 s) (sym from)
+    ∙ (c.loop-i.invariant.2 ∙ (ap (λ k. first_from k s c.loop-i.at) n ∙ first_end s c.loop-i.at)))
