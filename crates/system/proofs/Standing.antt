@@ -1,12 +1,16 @@
 -- What follows from routines standing rightly on one another, and what keeps them so.
-use Rattle.std.proofs.Common.{◌≡◌, ℕ, ◌+◌, ◌<◌, ◌≤◌, Bool, true, false, cond, ◌&&◌, ltb, List, [], ◌∷◌, length, Some, None, Option, sym, refl, ap, subst, arith}
+use Rattle.std.proofs.Common.{◌≡◌, ℕ, ◌+◌, ◌<◌, ◌≤◌, Bool, true, false, cond, not, ◌&&◌, ltb, List, [], ◌∷◌, length, Some, None, Option, sym, refl, ap, subst, arith}
 use Rattle.std.proofs.lemmas.Bool.{and_parts, ltb-true, false≢true, cond_both}
+use Rattle.numbers.specs.declared.number.EventNo.{EventNo}
 use Rattle.numbers.specs.declared.number.LineNo.{LineNo}
 use Rattle.numbers.specs.declared.number.TaskNo.{TaskNo}
+use Rattle.numbers.specs.Sets.{has}
 use Rattle.board.specs.Figure.{figure_of, some_line, Nested}
-use Rattle.board.specs.Plans.{Parts}
+use Rattle.board.specs.Plans.{Parts, within}
 use Rattle.board.specs.Ranks.{rank_bound}
 use Rattle.board.proofs.Counting.{by_ranks, many_few, nest_within}
+use Rattle.kernel.specs.declared.call.Call.{Call}
+use Rattle.kernel.specs.declared.call.Call.TheVariants.{Raise, Enter, Pend, Go, Signal, Block, Post, Leave, Mask, Unmask}
 use Rattle.kernel.specs.declared.place.LinePlace.{LinePlace}
 use Rattle.kernel.specs.declared.place.LinePlace.TheVariants.{Idle, Handling, Posted}
 use Rattle.kernel.specs.declared.place.SchedulerPlace.{SchedulerPlace}
@@ -17,7 +21,7 @@ use Rattle.kernel.specs.declared.routine.Routine.{Routine}
 use Rattle.kernel.specs.declared.routine.Routine.TheVariants.{Direct, Delayed, Task, Handler}
 use Rattle.kernel.specs.Afterwards.{handlers}
 use Rattle.kernel.specs.States.{State, line_place, task_of}
-use Rattle.kernel.specs.Rules.{Chooses, Outcome, Ranks, decide, gives_way, go_by, go_handler, go_scheduler, go_task, gone, is_task, lines, rest, return_to, switch}
+use Rattle.kernel.specs.Rules.{Chooses, Outcome, Ranks, apply, block_by, decide, enable, enable_by, events, gives_way, go_by, go_handler, go_scheduler, go_task, gone, in_application, in_handler, is_task, leave_by, lines, nested, pend_by, post_by, provided, raise_line, rest, return_to, signal_by, switch, tasks}
 use Rattle.system.specs.Stacked.{above, stacked}
 use Rattle.system.specs.Views.{Room, go_at, standing, stands}
 
@@ -95,7 +99,7 @@ module _ (rank : Ranks) (n : ℕ) where
   pub room_at : (s : State) → stacked rank n s.active s.suspended ≡ true → Room (standing s) (length s.suspended)
   room_at s h = room_by s.active s h
 
--- each step of the active routine keeps them so
+-- each call keeps them so, in every state of the rules and under any ranks
 module _ (plan : Parts) (choose : Chooses) (rank : Ranks) where
   abbrev Stands : State → Type 0
   Stands s = stacked rank (lines plan) s.active s.suspended ≡ true
@@ -105,6 +109,10 @@ module _ (plan : Parts) (choose : Chooses) (rank : Ranks) where
 
   ok : {outcome : Outcome} → Stands outcome.0 → After outcome
   ok h = record { holds = h }
+
+  either_way : (v : Bool) (m : ℕ) (s : State) (k : Outcome) → Stands s → (v ≡ true → After k) → After (provided v m s k)
+  either_way true m s k h f = f refl
+  either_way false m s k h f = ok h
 
   replaced : (rs : List Routine) (t : TaskNo) → stacked rank (lines plan) Direct rs ≡ true → stacked rank (lines plan) Direct (Task t ∷ rest rs) ≡ true
   replaced [] t h = absurd (false≢true h)
@@ -175,6 +183,71 @@ module _ (plan : Parts) (choose : Chooses) (rank : Ranks) where
   went Delayed s e h = went_scheduler true s.scheduler s e h
   went (Task t) s e h = went_task t (task_of s t).place s e h
   went (Handler i) s e h = went_handler i (line_place s i) s h
+
+  raised_on : (i : LineNo) (v : Bool) (s : State) → Stands s → After (raise_line i v s)
+  raised_on i true s h = ok h
+  raised_on i false s h = ok h
+
+  pended_on : (a : Routine) (s : State) → s.active ≡ a → Stands s → After (pend_by a s)
+  pended_on Direct s e h = ok h
+  pended_on Delayed s e h = ok h
+  pended_on (Task t) s e h = ok (subst (λ a. stacked rank (lines plan) a s.suspended ≡ true) e h)
+  pended_on (Handler i) s e h = ok h
+
+  signalled_on : (set : ℕ) (a : Routine) (s : State) → Stands s → After (signal_by plan set a s)
+  signalled_on set Direct s h = ok h
+  signalled_on set Delayed s h = ok h
+  signalled_on set (Task t) s h = either_way (in_application (task_of s t).place) _ s _ h (λ _. either_way (within set (tasks plan)) _ s _ h (λ _. ok h))
+  signalled_on set (Handler i) s h = ok h
+
+  blocked_on : (a : Routine) (s : State) → Stands s → After (block_by a s)
+  blocked_on Direct s h = ok h
+  blocked_on Delayed s h = ok h
+  blocked_on (Task t) s h = either_way (in_application (task_of s t).place) _ s _ h (λ _. ok h)
+  blocked_on (Handler i) s h = ok h
+
+  posted_on : (e : EventNo) (a : Routine) (s : State) → Stands s → After (post_by plan e a s)
+  posted_on e Direct s h = ok h
+  posted_on e Delayed s h = ok h
+  posted_on e (Task t) s h = ok h
+  posted_on e (Handler i) s h = either_way (in_handler (line_place s i)) _ s _ h (λ _. either_way (ltb e.0 (events plan)) _ s _ h (λ _. ok h))
+
+  left_on : (a : Routine) (s : State) → Stands s → After (leave_by a s)
+  left_on Direct s h = ok h
+  left_on Delayed s h = ok h
+  left_on (Task t) s h = ok h
+  left_on (Handler i) s h = either_way (in_handler (line_place s i)) _ s _ h (λ _. ok (returned s.suspended _ h refl))
+
+  enabled_on : (i : LineNo) (on : Bool) (s : State) → Stands s → After (enable plan i on s)
+  enabled_on i true s h = either_way (ltb i.0 (lines plan)) _ s _ h (λ _. ok h)
+  enabled_on i false s h = either_way (ltb i.0 (lines plan)) _ s _ h (λ _. ok h)
+
+  allowed_on : (i : LineNo) (on : Bool) (a : Routine) (s : State) → Stands s → After (enable_by plan i on a s)
+  allowed_on i on Direct s h = ok h
+  allowed_on i on Delayed s h = ok h
+  allowed_on i on (Task t) s h = either_way (in_application (task_of s t).place) _ s _ h (λ _. enabled_on i on s h)
+  allowed_on i on (Handler j) s h = either_way (in_handler (line_place s j)) _ s _ h (λ _. enabled_on i on s h)
+
+  kept : (c : Call) (s : State) → Stands s → After (apply plan choose rank c s)
+  unfolding apply
+  kept (Raise i) s h = either_way (ltb i.0 (lines plan)) _ s _ h (λ _. raised_on i (has s.pending i.0) s h)
+  kept (Enter i) s h =
+      either_way (ltb i.0 (lines plan)) _ s _ h (λ known.
+      either_way (has s.pending i.0) _ s _ h (λ _.
+      either_way (has s.enabled i.0) _ s _ h (λ _.
+      either_way (not (nested i (s.active ∷ s.suspended))) _ s _ h (λ _.
+      either_way (gives_way rank i s.active) _ s _ h (λ lower. ok (rw (known, lower, h) refl))))))
+  kept Pend s h = either_way s.request _ s _ h (λ _. either_way s.delayed _ s _ h (λ _. pended_on s.active s refl h))
+  kept Go s h = went s.active s refl h
+  kept (Signal set) s h = signalled_on set.bits s.active s h
+  kept Block s h = blocked_on s.active s h
+  kept (Post e) s h = posted_on e s.active s h
+  kept Leave s h = left_on s.active s h
+  kept (Mask i) s h = allowed_on i false s.active s h
+  kept (Unmask i) s h = allowed_on i true s.active s h
+
+  pub keeps : (c : Call) (s : State) → Stands s → Stands (apply plan choose rank c s).0
+  keeps c s h = (kept c s h).holds
 
   went_at : (a : Routine) (s : State) → s.active ≡ a → Stands s → After (go_at plan choose (stands a s) s)
   went_at Direct s e h = went Direct s e h
