@@ -27,11 +27,11 @@ fn show(rt: &impl Print, tasks: u8, start: u8) -> io::Result<()> {
     let mut bytes = BOARD;
     bytes[5] = tasks;
     bytes[10] = start;
-    print!(rt; "tasks {tasks} start {start} refused ")?;
-    match left_after(&bytes).map_err(|fault| fault.refusal()) {
-        Ok(left) => println!(rt; "0 {left}"),
-        Err(Refusal { number, place, .. }) => println!(rt; "{number} {place}"),
-    }
+    let (number, place) = match left_after(&bytes).map_err(|fault| fault.refusal()) {
+        Ok(left) => (0, left),
+        Err(Refusal { number, place, .. }) => (number, place),
+    };
+    println!(rt; "tasks {tasks} start {start} refused {number} {place}")
 }
 
 // The lines by which programs tell faults.

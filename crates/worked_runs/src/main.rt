@@ -4,6 +4,7 @@
 
 use board::choosing::PlanPolicy;
 use board::plan::{Plan, Tables};
+use board::refusal::PlanRefusal;
 use kernel::call::Call;
 use machine::asking::Unknown;
 use machine::listing::apply_from_start;
@@ -12,6 +13,15 @@ use numbers::number::{EventNo, LineNo, TaskNo};
 use numbers::set::Set;
 use policy::policies::Favoured;
 use std::io;
+use thiserror::Error;
+
+// Why the program ends with status 1. No `anyhow::Error`, which would tell the error on standard error in other words.
+#[derive(Debug, Drop, Error)]
+#[error(transparent)]
+enum Stop {
+    Io(#[from] io::Error),
+    Plan(#[from] PlanRefusal),
+}
 
 fn raise(line: u8) -> Call {
     Call::Raise(LineNo(line))
@@ -206,7 +216,7 @@ fn short_buffer(rt: &impl Print, plan: &Plan) -> io::Result<()> {
 }
 
 // Two tasks, three lines of the ranks 2, 3 and 2, and one event.
-fn main(rt: HostRuntime) -> anyhow::Result<()> {
+fn main(rt: HostRuntime) -> Result<(), Stop> {
     let plan = Plan::from_tables(&Tables {
         policy: 1,
         rule: 1,
